@@ -1,0 +1,7 @@
+pub mod Words
+pub mod Code
+pub mod Embedding
+pub mod Characters
+pub mod Letters
+pub mod Digits
+pub mod Roots
