@@ -21,15 +21,11 @@ pub table-at : (alphabet : List ℕ) (c : ℕ) → c < 256 → getD (places alph
 table-at alphabet c h = getD-map-counting (λ b. place alphabet (capital b)) 0 256 c c 0 (omega arith) (omega arith)
 
 module _ {E C : Type 0} (F : Operations E) {G : Operations C} (K : Code E C) (lawful : Lawful F G K) where
-  -- what the element numbered by the table says of a character
-  pub looked-up : (table : List ℕ) (c : ℕ) → c < 256 → table ≡ places (K .alphabet) → (r : Option E)
-      → elim r as (λ _. Type 0) [ Some x ↦ (getD table c 0 < F .order) × (x ≡ F .element (getD table c 0)) | None ↦ F .order ≤ getD table c 0 ] → Symbol-of F K c r
-  looked-up table c h e (Some x) (below, is) =
-      let at : getD table c 0 ≡ place (K .alphabet) (capital c) = ap (λ t. getD t c 0) e ∙ table-at (K .alphabet) c h in
-      (lt-ltb _ _ (omega (arith, at, below, lawful .alphabet-length)), is ∙ ap (F .element) at)
-  looked-up table c h e None above =
-      let at : getD table c 0 ≡ place (K .alphabet) (capital c) = ap (λ t. getD t c 0) e ∙ table-at (K .alphabet) c h in
-      le-ltb _ _ (omega (arith, at, above, lawful .alphabet-length))
+  -- what the element with its number says of a character
+  pub looked-up : (c n : ℕ) → n ≡ place (K .alphabet) (capital c) → (r : Option E)
+      → elim r as (λ _. Type 0) [ Some x ↦ (n < F .order) × (x ≡ F .element n) | None ↦ F .order ≤ n ] → Symbol-of F K c r
+  looked-up c n at (Some x) (below, is) = (lt-ltb _ _ (omega (arith, at, below, lawful .alphabet-length)), is ∙ ap (F .element) at)
+  looked-up c n at None above = le-ltb _ _ (omega (arith, at, above, lawful .alphabet-length))
 
 -- a character that is found stands at its place
 place-at : (alphabet : List ℕ) (c : ℕ) → place alphabet c < length alphabet → getD alphabet (place alphabet c) 0 ≡ c

@@ -5,3 +5,9 @@ pub mod Registers
 pub mod Readings
 pub mod Heads
 pub mod Checks
+pub mod Buffers
+pub mod Completion
+pub mod Lines
+pub mod Written
+pub mod Lones
+pub mod Bits

@@ -23,7 +23,7 @@ unless-fails b n a e = ap (λ t. unless t n a) e
 pub unless-passes : {A : Type 0} (b : Bool) (n : ℕ) (a c : Answer A) → b ≡ true → a ≡ c → unless b n a ≡ c
 unless-passes b n a c e d = ap (λ t. unless t n a) e ∙ d
 
-any-append : (f : ℕ → Bool) (us vs : List ℕ) → any f (us ++ vs) ≡ (any f us || any f vs)
+pub any-append : (f : ℕ → Bool) (us vs : List ℕ) → any f (us ++ vs) ≡ (any f us || any f vs)
 any-append f [] vs = refl
 any-append f (u ∷ us) vs = ap (λ b. f u || b) (any-append f us vs) ∙ sym (or-assoc (f u) (any f us) (any f vs))
 
@@ -79,6 +79,10 @@ module _ {E C : Type 0} (F : Operations E) (K : Code E C) (t : List ℕ) where
 -- a refusal is no answer
 refused-answered : {A : Type 0} (n : ℕ) (a : A) → refused n ≡ answered a → ⊥
 refused-answered n a e = let z : _≡_ {A = ℕ} 0 1 = cc in omega arith
+
+-- equal answers hold equal values
+pub answered-same : {A : Type 0} (a b : A) → answered a ≡ answered b → a ≡ b
+answered-same _ _ e = cc
 
 -- what is answered passed the test
 pub unless-answered : {A : Type 0} (b : Bool) (n : ℕ) (a : Answer A) (x : A) → unless b n a ≡ answered x → (b ≡ true) × (a ≡ answered x)

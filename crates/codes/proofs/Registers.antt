@@ -1,6 +1,6 @@
 -- The register of the long division, which holds the numbers of its symbols.
 use mathlib.Core.Path.{_≡_, _∙_, refl, sym, ap, ap₂, subst}
-use mathlib.Core.List.{List, [], _∷_, _++_, map, append-assoc}
+use mathlib.Core.List.{List, [], _∷_, _++_, map, append-assoc, map-append}
 use Prim.Native.Nat.{ℕ, zero, suc, _+_, _<_, _≤_}
 use native.Mathlib.Nat.{not-suc-le-zero, le-of-suc-le-suc, suc-inj, suc-ne-zero}
 use native.Mathlib.Numerals.{add-one}
@@ -10,10 +10,10 @@ use Rattle.std.proofs.shelf.Lists.{ext-getD, getD-take, getD-map, map-push, map
 use Rattle.std.proofs.shelf.Tests.{cond-true, lt-ltb}
 use Rattle.fields.specs.Field.{Operations, FieldLaws, minus}
 use Rattle.fields.specs.Numbered.{numbered}
-use Rattle.fields.proofs.Ring.{element-number}
+use Rattle.fields.proofs.Ring.{element-number, one-times}
 use Rattle.kinds.specs.Code.{Code, Lawful}
 use Rattle.kinds.specs.Words.{numbers}
-use Rattle.codes.specs.Division.{reduced, less, shifted, divided, remainder}
+use Rattle.codes.specs.Division.{reduced, less, lessened, shifted, divided, remainder}
 use Rattle.codes.proofs.Quotients.{length-less, length-shifted}
 
 module _ {E : Type 0} (F : Operations E) (laws : FieldLaws F) where
@@ -105,6 +105,20 @@ module _ {E C : Type 0} (F : Operations E) (laws : FieldLaws F) {G : Operations 
   divided-push g r [] s = refl
   divided-push g r (t ∷ w) s = divided-push g (shifted F g r t) w s
 
+  -- the steps over two words, one after the other
+  pub divided-append : (g r u v : List E) → divided F g r (u ++ v) ≡ divided F g (divided F g r u) v
+  divided-append g r [] v = refl
+  divided-append g r (t ∷ u) v = divided-append g (shifted F g r t) u v
+
+  -- the head of a line behind the start word
+  pub remainder-head : (f : ℕ → E) (some : List ℕ) (first last : ℕ)
+      → shifted F (K .generator) (divided F (K .generator) (shifted F (K .generator) (remainder F (K .generator) (K .start)) (f first)) (map f some)) (f last)
+      ≡ remainder F (K .generator) (K .start ++ map f (first ∷ (some ++ (last ∷ []))))
+  remainder-head f some first last =
+      sym (divided-push (K .generator) _ (map f some) (f last))
+      ∙ ap (divided F (K .generator) (shifted F (K .generator) (remainder F (K .generator) (K .start)) (f first))) (sym (map-append f some (last ∷ [])))
+      ∙ sym (divided-append (K .generator) _ (K .start) (map f (first ∷ (some ++ (last ∷ [])))))
+
   -- a register of zeros holds the remainder of nothing
   map-replicate : (n : ℕ) → numbers F (replicate n (F .zero)) ≡ replicate n 0
   map-replicate zero = refl
@@ -136,3 +150,24 @@ module _ {E C : Type 0} (F : Operations E) (laws : FieldLaws F) {G : Operations 
   -- the target by its numbers
   pub target-size : (bytes : List ℕ) → bytes ≡ numbers F (K .target) → length bytes ≡ K .checks
   target-size bytes e = word-length F bytes (K .target) e ∙ lawful .target-length
+
+  -- a check symbol, from the numbers of the target and of the register
+  lessened-at : (v w : List E) (j : ℕ) → j < length v → j < length w → getD (lessened F v w) j (F .zero) ≡ minus F (getD v j (F .zero)) (getD w j (F .zero))
+  lessened-at [] w j hv hw = absurd (not-suc-le-zero hv)
+  lessened-at (x ∷ v) [] j hv hw = absurd (not-suc-le-zero hw)
+  lessened-at (x ∷ v) (y ∷ w) zero hv hw = refl
+  lessened-at (x ∷ v) (y ∷ w) (suc j) hv hw = lessened-at v w j (le-of-suc-le-suc hv) (le-of-suc-le-suc hw)
+
+  numbered-at : (bytes : List ℕ) (w : List E) (j : ℕ) → bytes ≡ numbers F w → j < length w → numbered F (getD bytes j 0) ≡ getD w j (F .zero)
+  numbered-at bytes w j e h = ap (numbered F) (ap (λ b. getD b j 0) e ∙ getD-map (F .number) w j (F .zero) 0 h) ∙ numbered-number F laws (getD w j (F .zero))
+
+  pub check-symbol : (bytes symbols : List ℕ) (j : ℕ) (one : E) → one ≡ F .one → bytes ≡ numbers F (K .target) → length symbols ≡ 16 → j < K .checks → (w : List E) → take (K .checks) symbols ≡ numbers F w
+      → reduced F (getD bytes j 0) one (getD symbols j 0) ≡ F .number (getD (lessened F (K .target) w) j (F .zero))
+  check-symbol bytes symbols j one is-one given long below w holds =
+      ap (F .number)
+      (ap₂ (λ a b. minus F a b) (numbered-at bytes (K .target) j given (omega (arith, lawful .target-length)))
+      (ap₂ (F .times) is-one (ap (numbered F) (sym (getD-take (K .checks) symbols j 0 below)) ∙ numbered-at (take (K .checks) symbols) w j holds (omega (arith, size))) ∙ one-times F laws _)
+      ∙ sym (lessened-at (K .target) w j (omega (arith, lawful .target-length)) (omega (arith, size))))
+    where
+      size : length w ≡ K .checks
+      size = sym (length-map w (F .number)) ∙ sym (ap length holds) ∙ length-take-le (K .checks) symbols (omega (arith, lawful .few-checks, long))

@@ -4,4 +4,6 @@ pub mod Refusals
 pub mod Reading
 pub mod Checking
 pub mod Shown
+pub mod Writing
+pub mod Bytes
 pub mod Known

@@ -1,4 +1,5 @@
 -- The answer of checking as the code holds it, by what its references point to.
+use Prim.Native.Nat.{ℕ}
 use denote.Ref.{now}
 use Rattle.std.specs.declared.result.Result.{Result}
 use Rattle.std.specs.declared.result.Result.the-variants.{Ok, Err}
@@ -20,3 +21,8 @@ shown-line (Share k i x p) = share k (shown-part i) (shown-part x) (shown-part p
 abbrev pub shown : Result Line Refusal → Answer Typed
 shown (Ok l) = answered (shown-line l)
 shown (Err e) = refused (number-of e)
+
+-- how much a call wrote
+abbrev pub shown-count : Result ℕ Refusal → Answer ℕ
+shown-count (Ok n) = answered n
+shown-count (Err e) = refused (number-of e)

@@ -1,6 +1,6 @@
 -- Texts are lists of bytes: tests of their characters, and the symbols that these stand for.
 use mathlib.Core.Path.{_≡_}
-use mathlib.Core.Bool.{Bool, true, false, _&&_, _||_}
+use mathlib.Core.Bool.{Bool, true, false, cond, _&&_, _||_}
 use mathlib.Core.List.{List, [], _∷_}
 use Prim.Native.Nat.{ℕ}
 use lib.Dec.{ltb, eqb}
@@ -34,6 +34,14 @@ same-numbers (x ∷ xs) (y ∷ ys) = eqb x y && same-numbers xs ys
 -- whether a character, in either case, is in the alphabet
 abbrev pub known : {E C : Type 0} → Code E C → ℕ → Bool
 known K c = ltb (place (K .alphabet) (capital c)) (length (K .alphabet))
+
+-- the number of a character's symbol, if it has one
+abbrev pub number-in : {E C : Type 0} → Code E C → ℕ → Option ℕ
+number-in K c = cond (known K c) (Some (place (K .alphabet) (capital c))) None
+
+-- the character of the symbol with a number, if there is one
+abbrev pub character-in : {E C : Type 0} → Code E C → ℕ → Option ℕ
+character-in K n = cond (ltb n (length (K .alphabet))) (Some (getD (K .alphabet) n 0)) None
 
 module _ {E C : Type 0} (F : Operations E) (K : Code E C) where
   -- the symbol of a character that is

@@ -15,6 +15,7 @@ use crate::parts::Part;
 use crate::reading::read;
 use crate::refusals::Refusal;
 use crate::texts::capital;
+use crate::texts::place_of;
 use kinds::Kind;
 
 // What a text is: a lone secret or a share, with its parts as they were typed.
@@ -40,7 +41,7 @@ fn is_threshold(c: u8) -> bool
 fn is_secret<K: Kind>(c: u8) -> bool
     ensures { λ r. ⌜ r ≡ eqb (place (K·Kind .code .alphabet) (capital c)) (Symbol·Field .ops .number (K·Kind .code .secret)) ⌝ }
 {
-    K::symbol_table()[c as usize] == K::secret_number()
+    place_of::<K>(c) == K::secret_number()
 }
 
 // The parts of data whose characters are all in the alphabet.

@@ -2,10 +2,11 @@
 // them takes the symbol that comes in.
 ghost use mathlib.Core.Path.{_≡_};
 ghost use mathlib.Core.List.{List};
-ghost use lib.ListN.{take};
+ghost use Prim.Native.Nat.{_<_};
+ghost use lib.ListN.{getD, replicate, take};
 ghost use Rattle.codes.specs.Texts.{same-numbers};
 ghost use Rattle.kinds.specs.Words.{numbers};
-ghost use Rattle.codes.specs.Division.{reduced, shifted, remainder};
+ghost use Rattle.codes.specs.Division.{divided, lessened, reduced, remainder, shifted};
 use fields::Field;
 use fields::numbered;
 use kinds::Kind;
@@ -60,5 +61,22 @@ impl Register {
             }
         }
         true
+    }
+
+    // Zeros come in, as many as there are check symbols.
+    pub(crate) fn shift_zeros<K: Kind>(&mut self)
+        ensures { λ _. ⌜ ((w : List K·Symbol) → take (K·Kind .code .checks) (now (self .entry) .symbols) ≡ numbers (Symbol·Field .ops) w → take (K·Kind .code .checks) (now (self .exit) .symbols) ≡ numbers (Symbol·Field .ops) (divided (Symbol·Field .ops) (K·Kind .code .generator) w (replicate (K·Kind .code .checks) (Symbol·Field .ops .zero)))) ⌝ }
+    {
+        for _i in 0..K::check_symbols() {
+            self.shift::<K>(K::Symbol::zero());
+        }
+    }
+
+    // The target's symbol at a place less the register's, by its number.
+    pub(crate) fn check_symbol<K: Kind>(&self, j: usize) -> u8
+        requires { ⌜ j < K·Kind .code .checks ⌝ }
+        ensures { λ r. ⌜ ((w : List K·Symbol) → take (K·Kind .code .checks) (now (self .entry) .symbols) ≡ numbers (Symbol·Field .ops) w → r ≡ Symbol·Field .ops .number (getD (lessened (Symbol·Field .ops) (K·Kind .code .target) w) j (Symbol·Field .ops .zero))) ⌝ }
+    {
+        reduced::<K>(K::target()[j], K::Symbol::one(), self.symbols[j])
     }
 }

@@ -1,8 +1,8 @@
 // Characters of texts: their case, and the symbols that they stand for.
 ghost use mathlib.Core.Path.{_≡_};
 ghost use mathlib.Core.Bool.{false, _&&_, _||_};
-ghost use Rattle.codes.specs.Texts.{Symbol-of};
-ghost use Rattle.kinds.specs.Characters.{capital, small-letter, capital-letter};
+ghost use Rattle.codes.specs.Texts.{Symbol-of, character-in, number-in};
+ghost use Rattle.kinds.specs.Characters.{capital, small-letter, capital-letter, place};
 use fields::Field;
 use kinds::Kind;
 
@@ -47,9 +47,40 @@ impl Cases {
     }
 }
 
+// The place of a character in the alphabet, in either case; q for one that has none.
+pub(crate) fn place_of<K: Kind>(c: u8) -> u8
+    ensures { λ r. ⌜ r ≡ place (K·Kind .code .alphabet) (capital c) ⌝ }
+{
+    K::symbol_table()[c as usize]
+}
+
 // The symbol that a character stands for, in either case.
 pub(crate) fn symbol<K: Kind>(c: u8) -> Option<K::Symbol>
     ensures { λ r. ⌜ Symbol-of (Symbol·Field .ops) (K·Kind .code) c r ⌝ }
 {
-    K::Symbol::element(K::symbol_table()[c as usize] as u16)
+    K::Symbol::element(place_of::<K>(c) as u16)
+}
+
+// The number of the symbol that a character stands for, in either case.
+pub fn symbol_number<K: Kind>(c: u8) -> Option<u8>
+    ensures { λ r. ⌜ r ≡ number-in (K·Kind .code) c ⌝ }
+{
+    let number = place_of::<K>(c);
+    if (number as usize) < K::alphabet().len() {
+        Some(number)
+    } else {
+        None
+    }
+}
+
+// The character of the symbol with a number.
+pub fn symbol_character<K: Kind>(number: u8) -> Option<u8>
+    ensures { λ r. ⌜ r ≡ character-in (K·Kind .code) number ⌝ }
+{
+    let alphabet = K::alphabet();
+    if (number as usize) < alphabet.len() {
+        Some(alphabet[number as usize])
+    } else {
+        None
+    }
 }

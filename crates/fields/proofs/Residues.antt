@@ -1,14 +1,13 @@
 -- The whole numbers modulo 11 are a field, and -1 is no square.
 use mathlib.Core.Path.{_≡_, refl, ap}
-use Prim.Native.Nat.{ℕ, _<_}
+use Prim.Native.Nat.{_<_}
 use native.Mathlib.Nat.{mod-eq-of-lt}
-use native.Mathlib.Omega.{arith}
 use lib.Dec.{lit≤}
 use Rattle.fields.specs.Field.{FieldLaws, Rootless}
 use Rattle.fields.specs.Gf11.{gf11, gf11-u, gf11-v, residue}
 use Rattle.fields.specs.declared.gf11.Gf11.{Gf11}
 use Rattle.fields.proofs.Below.{Below, same-below}
-use Rattle.fields.proofs.Tested.{same, law, law₂, law₃, law-inv, rootless}
+use Rattle.fields.proofs.Tested.{laws-from, rootless, same}
 
 abbrev from : Below 11 → Gf11
 from k = record { n = k .0; bound = k .1 }
@@ -23,24 +22,7 @@ pub same-gf11 : (x y : Gf11) → x .n ≡ y .n → x ≡ y
 same-gf11 = same gf11 bound found
 
 pub gf11-laws : FieldLaws gf11
-gf11-laws = record {
-  few = lit≤ tt;
-  below = bound;
-  same = same-gf11;
-  numbered = λ n h. mod-eq-of-lt h;
-  number-zero = refl;
-  number-one = refl;
-  plus-assoc = law₃ gf11 bound found _ _ tt;
-  plus-comm = law₂ gf11 bound found _ _ tt;
-  plus-zero = law gf11 bound found _ _ tt;
-  plus-neg = law gf11 bound found _ _ tt;
-  times-assoc = law₃ gf11 bound found _ _ tt;
-  times-comm = law₂ gf11 bound found _ _ tt;
-  times-one = law gf11 bound found _ _ tt;
-  times-plus = law₃ gf11 bound found _ _ tt;
-  times-inv = law-inv gf11 bound found refl tt;
-  one-zero = λ e. let numbers : _≡_ {A = ℕ} 1 0 = ap (λ x. x .n) e in omega arith;
-}
+gf11-laws = laws-from gf11 bound found (lit≤ tt) (λ n h. mod-eq-of-lt h) refl refl (tt, tt, tt, tt, tt, tt, tt, tt, tt)
 
 pub gf11-rootless : Rootless gf11 gf11-u gf11-v
 gf11-rootless = rootless gf11 bound found gf11-u gf11-v tt

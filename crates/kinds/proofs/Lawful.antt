@@ -56,6 +56,43 @@ module _ {E C : Type 0} (F : Operations E) (G : Operations C) (K : Code E C) whe
     pub short : T (leb top 103)
     pub longest : (n : ℕ) → K .allows n ≡ true → n ≤ top
 
+  -- the same in a row
+  abbrev pub Tests : ℕ → Type 0
+  Tests top =
+      (T (leb (F .order) 32))
+      × (length (K .prefix) ≡ 3)
+      × (Each 3 (λ i. plain (getD (K .prefix) i 0)))
+      × (length (K .alphabet) ≡ F .order)
+      × (Each (F .order) (λ i. plain (character i)))
+      × (Each₂ (F .order) (λ i j. eqb i j || not (eqb (character i) (character j))))
+      × (Each 10 (λ d. eqb d 1 || found (48 + d)))
+      × (T (leb (K .checks) 15))
+      × (length (K .generator) ≡ K .checks)
+      × (length (K .target) ≡ K .checks)
+      × (T (steps G root (K .base) 8 (power G (K .base) (K .first))))
+      × (T (not (eqb (G .number (K .base)) 0)))
+      × (T (steps G (λ y. not (eqb (G .number y) 1)) (K .base) (5 + top + K .checks) (K .base)))
+      × (T (leb top 103))
+
+  pub tested-by : (top : ℕ) → Tests top → ((n : ℕ) → K .allows n ≡ true → n ≤ top) → Tested top
+  tested-by top tests longest = record {
+    few-symbols = tests .0;
+    prefix-length = tests .1;
+    prefix-plain = tests .2;
+    alphabet-length = tests .3;
+    alphabet-plain = tests .4;
+    alphabet-apart = tests .5;
+    thresholds = tests .6;
+    few-checks = tests .7;
+    generator-length = tests .8;
+    target-length = tests .9;
+    roots = tests .10;
+    base-nonzero = tests .11;
+    no-one = tests .12;
+    short = tests .13;
+    longest = longest;
+  }
+
   module _ (f-laws : FieldLaws F) (g-laws : FieldLaws G) (embeds : Embeds F G (K .embed)) (top : ℕ) (tested : Tested top) where
     apart : (i j : ℕ) → i < F .order → j < F .order → character i ≡ character j → i ≡ j
     apart i j hi hj e =

@@ -4,3 +4,4 @@ pub mod Subfield
 pub mod Lawful
 pub mod Numbers
 pub mod Three
+pub mod Wholes

@@ -11,67 +11,21 @@ use Rattle.kinds.specs.Code.{Lawful}
 use Rattle.kinds.specs.Digits.{digits}
 use Rattle.kinds.specs.Letters.{short-letters, long-letters}
 use Rattle.kinds.proofs.Subfield.{embeds}
-use Rattle.kinds.proofs.Lawful.{Tested, lawful}
+use Rattle.kinds.proofs.Lawful.{Tested, lawful, tested-by}
 use Rattle.kinds.proofs.Tests.{passed, left, right}
 
 short-tested : Tested gf32 gf1024 short-letters 74
 unfolding times-a product
-short-tested = record {
-  few-symbols = tt;
-  prefix-length = refl;
-  prefix-plain = tt;
-  alphabet-length = refl;
-  alphabet-plain = tt;
-  alphabet-apart = tt;
-  thresholds = tt;
-  few-checks = tt;
-  generator-length = refl;
-  target-length = refl;
-  roots = tt;
-  base-nonzero = tt;
-  no-one = tt;
-  short = tt;
-  longest = λ n e. leb→le n 74 (left (leb n 74) _ (right (leb 26 n) _ (passed _ e)));
-}
+short-tested =
+    tested-by gf32 gf1024 short-letters 74 (tt, refl, tt, refl, tt, tt, tt, tt, refl, refl, tt, tt, tt, tt) (λ n e. leb→le n 74 (left (leb n 74) _ (right (leb 26 n) _ (passed _ e))))
 
 long-tested : Tested gf32 gf1024 long-letters 103
 unfolding times-a product
-long-tested = record {
-  few-symbols = tt;
-  prefix-length = refl;
-  prefix-plain = tt;
-  alphabet-length = refl;
-  alphabet-plain = tt;
-  alphabet-apart = tt;
-  thresholds = tt;
-  few-checks = tt;
-  generator-length = refl;
-  target-length = refl;
-  roots = tt;
-  base-nonzero = tt;
-  no-one = tt;
-  short = tt;
-  longest = λ n e. leb→le n 103 (left (leb n 103) _ (right (leb 76 n) _ (passed _ e)));
-}
+long-tested =
+    tested-by gf32 gf1024 long-letters 103 (tt, refl, tt, refl, tt, tt, tt, tt, refl, refl, tt, tt, tt, tt) (λ n e. leb→le n 103 (left (leb n 103) _ (right (leb 76 n) _ (passed _ e))))
 
 digits-tested : Tested gf11 gf121 digits 40
-digits-tested = record {
-  few-symbols = tt;
-  prefix-length = refl;
-  prefix-plain = tt;
-  alphabet-length = refl;
-  alphabet-plain = tt;
-  alphabet-apart = tt;
-  thresholds = tt;
-  few-checks = tt;
-  generator-length = refl;
-  target-length = refl;
-  roots = tt;
-  base-nonzero = tt;
-  no-one = tt;
-  short = tt;
-  longest = λ n e. leb→le n 40 (right (leb 4 n) _ (passed _ e));
-}
+digits-tested = tested-by gf11 gf121 digits 40 (tt, refl, tt, refl, tt, tt, tt, tt, refl, refl, tt, tt, tt, tt) (λ n e. leb→le n 40 (right (leb 4 n) _ (passed _ e)))
 
 pub short-lawful : Lawful gf32 gf1024 short-letters
 short-lawful = lawful gf32 gf1024 short-letters gf32-laws gf1024-laws (embeds gf32 gf32-laws gf32-u gf32-v) 74 short-tested

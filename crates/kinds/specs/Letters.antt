@@ -53,3 +53,10 @@ long-letters = record {
   first = 1019;
   allows = λ n. leb 76 n && (leb n 103 && whole n);
 }
+
+-- the counts of bytes that each takes
+abbrev pub short-bytes : ℕ → Bool
+short-bytes m = leb 16 m && leb m 46
+
+abbrev pub long-bytes : ℕ → Bool
+long-bytes m = leb 47 m && leb m 64

@@ -5,3 +5,4 @@ pub mod Characters
 pub mod Letters
 pub mod Digits
 pub mod Roots
+pub mod Bytes

@@ -1,6 +1,7 @@
 // The long code of BIP-93, for payloads of 76 to 103 symbols.
 ghost use mathlib.Core.Path.{_≡_};
-ghost use Rattle.kinds.specs.Letters.{long-letters};
+ghost use Rattle.kinds.specs.Letters.{long-bytes, long-letters};
+use crate::bytes::ByteKind;
 use crate::embedding::embedded;
 use crate::kind::Kind;
 use crate::letters::ALPHABET;
@@ -77,5 +78,13 @@ pub impl Kind for LongLetters as LongKind {
 
     fn allows(n: usize) -> bool {
         76 <= n && n <= 103 && is_whole(n)
+    }
+}
+
+pub impl ByteKind for LongLetters as LongBytes {
+    ghost takes = { long-bytes };
+
+    fn takes_bytes(m: usize) -> bool {
+        47 <= m && m <= 64
     }
 }

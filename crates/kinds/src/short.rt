@@ -1,6 +1,7 @@
 // The short code of BIP-93, for payloads of 26 to 74 symbols.
 ghost use mathlib.Core.Path.{_≡_};
-ghost use Rattle.kinds.specs.Letters.{short-letters};
+ghost use Rattle.kinds.specs.Letters.{short-bytes, short-letters};
+use crate::bytes::ByteKind;
 use crate::embedding::embedded;
 use crate::kind::Kind;
 use crate::letters::ALPHABET;
@@ -77,5 +78,13 @@ pub impl Kind for ShortLetters as ShortKind {
 
     fn allows(n: usize) -> bool {
         26 <= n && n <= 74 && is_whole(n)
+    }
+}
+
+pub impl ByteKind for ShortLetters as ShortBytes {
+    ghost takes = { short-bytes };
+
+    fn takes_bytes(m: usize) -> bool {
+        16 <= m && m <= 46
     }
 }
