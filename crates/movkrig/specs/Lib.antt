@@ -1,6 +1,10 @@
 pub mod Answers
 pub mod Commands
+pub mod Hexadecimal
+pub mod Lengths
 pub mod Names
 pub mod Printable
 pub mod Shown
+pub mod Symbols
 pub mod Words
+pub mod Writing

@@ -1,10 +1,11 @@
 // The command language: one command a line, a name and the words that it takes.
 ghost use mathlib.Core.Path.{_≡_};
 ghost use mathlib.Core.List.{[]};
-ghost use Rattle.movkrig.specs.Commands.{take-check, take-order, order-of};
+ghost use Rattle.movkrig.specs.Commands.{take-check, take-lone, take-encode, take-decode, take-order, order-of};
 ghost use Rattle.movkrig.specs.Shown.{ahead, shown-order, Reads, shown-reading};
 ghost use Rattle.movkrig.specs.Words.{left-words, line-words};
 use crate::errors::CommandError;
+use crate::names::ByteKindName;
 use crate::names::CommandName;
 use crate::names::KindName;
 use crate::operands::Operands;
@@ -13,7 +14,27 @@ use crate::words::WordsIterator;
 
 #[derive(Clone, Copy)]
 pub enum Command<'a> {
-    Check { kind: KindName, text: &'a [u8] },
+    Check {
+        kind: KindName,
+        text: &'a [u8],
+    },
+    Lone {
+        kind: KindName,
+        identifier: &'a [u8],
+        payload: &'a [u8],
+        length: usize,
+    },
+    // The bytes in hexadecimal.
+    Encode {
+        kind: ByteKindName,
+        bytes: &'a [u8],
+        length: usize,
+    },
+    Decode {
+        kind: ByteKindName,
+        payload: &'a [u8],
+        length: usize,
+    },
 }
 
 impl<'a> Command<'a> {
@@ -38,6 +59,9 @@ impl<'a> Command<'a> {
         let operands = Operands::new(name, words);
         match name {
             CommandName::Check => Command::check(operands),
+            CommandName::Lone => Command::lone(operands),
+            CommandName::Encode => Command::encode(operands),
+            CommandName::Decode => Command::decode(operands),
         }
     }
 
@@ -48,5 +72,49 @@ impl<'a> Command<'a> {
         let text = operands.word()?;
         operands.end()?;
         Ok(Command::Check { kind, text })
+    }
+
+    fn lone(mut operands: Operands<'a>) -> Result<Command<'a>, CommandError<'a>>
+        ensures { λ r. ⌜ Reads shown-order r [] (take-lone (operands .entry .command) (ahead (operands .entry))) ⌝ }
+    {
+        let kind = operands.kind()?;
+        let identifier = operands.symbols()?;
+        let payload = operands.symbols()?;
+        let length = operands.length()?;
+        operands.end()?;
+        Ok(Command::Lone {
+            kind,
+            identifier,
+            payload,
+            length,
+        })
+    }
+
+    fn encode(mut operands: Operands<'a>) -> Result<Command<'a>, CommandError<'a>>
+        ensures { λ r. ⌜ Reads shown-order r [] (take-encode (operands .entry .command) (ahead (operands .entry))) ⌝ }
+    {
+        let kind = operands.byte_kind()?;
+        let bytes = operands.hexadecimal()?;
+        let length = operands.length()?;
+        operands.end()?;
+        Ok(Command::Encode {
+            kind,
+            bytes,
+            length,
+        })
+    }
+
+    fn decode(mut operands: Operands<'a>) -> Result<Command<'a>, CommandError<'a>>
+        ensures { λ r. ⌜ Reads shown-order r [] (take-decode (operands .entry .command) (ahead (operands .entry))) ⌝ }
+    {
+        let kind = operands.byte_kind()?;
+        let payload = operands.symbols()?;
+        let length = operands.length()?;
+        operands.end()?;
+        Ok(Command::Decode {
+            kind,
+            payload,
+            length,
+        })
     }
 }

@@ -1,4 +1,6 @@
 // What the program itself cannot make sense of.
+use crate::lengths::MOST_LENGTH;
+use crate::names::ByteKindName;
 use crate::names::CommandName;
 use crate::names::KindName;
 use crate::printable::Printable;
@@ -13,11 +15,25 @@ pub enum CommandError<'a> {
     UnknownKind {
         word: &'a [u8],
     },
+    // A command on bytes, at a kind whose payloads hold none.
+    NoBytes {
+        command: CommandName,
+    },
     MissingWord {
         command: CommandName,
     },
     SurplusWord {
         command: CommandName,
+        word: &'a [u8],
+    },
+    // A word with more characters than this.
+    LongWord {
+        most: usize,
+    },
+    NoHexadecimal {
+        word: &'a [u8],
+    },
+    NoLength {
         word: &'a [u8],
     },
 }
@@ -35,6 +51,11 @@ pub impl fmt::Display for CommandError<'_> as CommandErrorDisplay {
                 let expected = KindName::EXPECTED;
                 write!(f, "unknown kind '{word}': expected {expected}")
             }
+            CommandError::NoBytes { command } => {
+                let usage = command.usage();
+                let kinds = ByteKindName::ALL;
+                write!(f, "digits hold no bytes: {usage} is for {kinds}")
+            }
             CommandError::MissingWord { command } => {
                 let usage = command.usage();
                 write!(f, "missing word: expected {usage}")
@@ -43,6 +64,20 @@ pub impl fmt::Display for CommandError<'_> as CommandErrorDisplay {
                 let word = Printable(word);
                 let usage = command.usage();
                 write!(f, "surplus word '{word}': expected {usage}")
+            }
+            CommandError::LongWord { most } => {
+                write!(f, "long word: expected at most {most} characters")
+            }
+            CommandError::NoHexadecimal { word } => {
+                let word = Printable(word);
+                write!(f, "no bytes '{word}': expected pairs of hexadecimal digits")
+            }
+            CommandError::NoLength { word } => {
+                let word = Printable(word);
+                write!(
+                    f,
+                    "no length '{word}': expected a number up to {MOST_LENGTH}"
+                )
             }
         }
     }

@@ -18,7 +18,7 @@ pub impl fmt::Display for Help as HelpDisplay {
 }
 
 // In the order in which they are tested.
-const REFUSALS: [Refusal; 7] = [
+const REFUSALS: [Refusal; 12] = [
     Refusal::Length,
     Refusal::Prefix,
     Refusal::Character,
@@ -26,10 +26,15 @@ const REFUSALS: [Refusal; 7] = [
     Refusal::Checksum,
     Refusal::Threshold,
     Refusal::LoneIndex,
+    Refusal::Identifier,
+    Refusal::Payload,
+    Refusal::Symbol,
+    Refusal::Bytes,
+    Refusal::Buffer,
 ];
 
 const TEXT: &str = "\
-movkrig: checks lines of codex32 (BIP-93), and lines of digits
+movkrig: checks and writes lines of codex32 (BIP-93), and lines of digits
 
 Usage: movkrig < COMMANDS
        movkrig --help
@@ -39,7 +44,16 @@ standard output. Spaces and tabs separate words. Empty lines and lines that
 begin with # are passed over. The exit status is 0 whatever was refused.
 
 Commands:
-  check KIND TEXT   is TEXT a line of this kind, and what is it made of?
+  check KIND TEXT              is TEXT a line of this kind, and what is it
+                               made of?
+  lone KIND ID PAYLOAD [LEN]   write the line of a secret that is not shared
+  encode KIND HEX [LEN]        bytes to payload, for short and long
+  decode KIND CHARS [LEN]      payload to bytes, for short and long
+ID, PAYLOAD and CHARS are characters of the kind's alphabet, small or capitals,
+at most 1024; any other character is refused. HEX is pairs of hexadecimal
+digits, small or capitals, for at most 1024 bytes. LEN is the length of the
+buffer for the answer, in characters for lone and encode and in bytes for
+decode: a number up to 1024, and 128 where it is left out.
 
 Kinds:
   short    letters and digits after BIP-93; begins with MS1; 26 to 74 payload
@@ -50,7 +64,8 @@ Kinds:
            check characters
 A line is its three characters in front, the threshold, an identifier of four
 characters, the index, the payload and the check characters. A short or long
-payload has as many characters as some number of whole bytes needs. Letters are
+payload has as many characters as some number of whole bytes needs: 16 to 46
+bytes for short, 47 to 64 for long. The letters of a line that is checked are
 all small or all capitals.
 
 Answers, with parts of a line exactly as they were typed:
@@ -58,8 +73,14 @@ Answers, with parts of a line exactly as they were typed:
            a share; as many as the threshold says give the secret back
   lone identifier=TEST payload=XX..
            the secret itself, not shared
+  line MS10TESTSXX..
+           the line that was written, in capitals
+  payload XX..
+           the characters of the payload, in capitals
+  bytes 318c..
+           the bytes in hexadecimal, in small letters
   refused N: REASON
-           TEXT is no line of this kind, by the first rule below that it breaks
+           by the first rule below that is broken
   error: REASON
            the command makes no sense to the program; nothing has changed
 

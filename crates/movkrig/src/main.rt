@@ -5,10 +5,14 @@ mod commands;
 mod errors;
 mod execution;
 mod help;
+mod hexadecimal;
+mod lengths;
 mod names;
 mod operands;
 mod printable;
+mod symbols;
 mod words;
+mod writing;
 
 use answers::AnswerDisplay;
 use arguments::Request;
@@ -40,7 +44,7 @@ fn run(rt: &LibcRuntime) -> Result<(), AnyError> {
 fn answer_all(rt: &LibcRuntime) -> Result<(), AnyError> {
     for line in BufReader::new(rt.stdin()).split(rt.alloc(), b'\n') {
         let line = line?;
-        if let Some(answer) = reply(line.as_slice()) {
+        if let Some(answer) = reply(rt.alloc(), line.as_slice())? {
             rt.println(answer)?;
         }
     }

@@ -1,22 +1,31 @@
 // The names that words of the command language stand for: commands and kinds of lines.
 ghost use mathlib.Core.Path.{_≡_};
-ghost use Rattle.movkrig.specs.Names.{command-named, kind-named};
+ghost use Rattle.movkrig.specs.Names.{byte-kind, command-named, kind-named};
 use crate::words::is;
 
 #[derive(Clone, Copy, PartialEq, Eq, Debug)]
 pub enum CommandName {
     Check,
+    Lone,
+    Encode,
+    Decode,
 }
 
 impl CommandName {
     // What an error says was expected in the place of a name.
-    pub const EXPECTED: &'static str = "check";
+    pub const EXPECTED: &'static str = "check, lone, encode or decode";
 
     pub fn read(word: &[u8]) -> Option<CommandName>
         ensures { λ r. ⌜ r ≡ command-named (now (word .entry)) ⌝ }
     {
         if is(word, "check") {
             Some(CommandName::Check)
+        } else if is(word, "lone") {
+            Some(CommandName::Lone)
+        } else if is(word, "encode") {
+            Some(CommandName::Encode)
+        } else if is(word, "decode") {
+            Some(CommandName::Decode)
         } else {
             None
         }
@@ -26,6 +35,9 @@ impl CommandName {
     pub fn usage(self) -> &'static str {
         match self {
             CommandName::Check => "check KIND TEXT",
+            CommandName::Lone => "lone KIND ID PAYLOAD [LEN]",
+            CommandName::Encode => "encode KIND HEX [LEN]",
+            CommandName::Decode => "decode KIND CHARS [LEN]",
         }
     }
 }
@@ -54,4 +66,27 @@ impl KindName {
             None
         }
     }
+
+    // The same as a kind whose payloads hold bytes; digits hold none.
+    pub fn with_bytes(self) -> Option<ByteKindName>
+        ensures { λ r. ⌜ r ≡ byte-kind self ⌝ }
+    {
+        match self {
+            KindName::Short => Some(ByteKindName::Short),
+            KindName::Long => Some(ByteKindName::Long),
+            KindName::Digits => None,
+        }
+    }
+}
+
+// The kinds whose payloads hold bytes.
+#[derive(Clone, Copy, PartialEq, Eq, Debug)]
+pub enum ByteKindName {
+    Short,
+    Long,
+}
+
+impl ByteKindName {
+    // What an error says a command on bytes is for.
+    pub const ALL: &'static str = "short and long";
 }
