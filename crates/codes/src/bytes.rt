@@ -63,7 +63,7 @@ fn bytes_in(symbols: usize) -> usize
 // Bytes to the numbers of payload symbols, the first byte's highest bit first; answers how many symbols there are.
 pub fn encode<K: ByteKind>(bytes: &[u8], out: &mut [u8]) -> Result<usize, Refusal>
     ensures wrote { Wrote (encode_answer K.ByteKind.takes bytes.now (length out.old)) out.old (shown_count result) out.new }
-    ensures laws { WholeBytes Symbol-as-Field.ops K.Kind.code K.ByteKind.takes }
+    ensures laws { WholeBytes K.Symbol.Field.ops K.Kind.code K.ByteKind.takes }
 {
     if !K::takes_bytes(bytes.len()) {
         return Err(Refusal::Bytes);
@@ -78,7 +78,7 @@ pub fn encode<K: ByteKind>(bytes: &[u8], out: &mut [u8]) -> Result<usize, Refusa
 
 // The numbers of payload symbols to bytes; answers how many bytes there are.
 pub fn decode<K: ByteKind>(symbols: &[u8], out: &mut [u8]) -> Result<usize, Refusal>
-    ensures { Wrote (decode_answer Symbol-as-Field.ops K.Kind.code symbols.now (length out.old)) out.old (shown_count result) out.new }
+    ensures { Wrote (decode_answer K.Symbol.Field.ops K.Kind.code symbols.now (length out.old)) out.old (shown_count result) out.new }
 {
     if !K::allows(symbols.len()) {
         return Err(Refusal::Payload);

@@ -14,8 +14,8 @@ use kinds::Kind;
 
 // What a text is: a lone secret or a share, with its parts as they were typed.
 pub fn check<K: Kind>(text: &[u8]) -> Result<Line<'_>, Refusal>
-    ensures answer { shown result ≡ check_answer Symbol-as-Field.ops K.Kind.code text.now }
-    ensures checksum { Checksum Symbol-as-Field.ops K.Kind.code }
+    ensures answer { shown result ≡ check_answer K.Symbol.Field.ops K.Kind.code text.now }
+    ensures checksum { Checksum K.Symbol.Field.ops K.Kind.code }
 {
     let word = read::<K>(text)?;
     if !word.register.reaches_target::<K>() {
@@ -33,7 +33,7 @@ fn is_threshold(c: u8) -> bool
 
 // Whether a character stands for the secret's index.
 fn is_secret<K: Kind>(c: u8) -> bool
-    ensures { result ≡ (place K.Kind.code.alphabet (capital c) == Symbol-as-Field.ops.number K.Kind.code.secret) }
+    ensures { result ≡ (place K.Kind.code.alphabet (capital c) == K.Symbol.Field.ops.number K.Kind.code.secret) }
 {
     place_of::<K>(c) == K::secret_number()
 }
@@ -41,7 +41,7 @@ fn is_secret<K: Kind>(c: u8) -> bool
 // The parts of data whose characters are all in the alphabet.
 fn named<K: Kind>(text: &[u8]) -> Result<Line<'_>, Refusal>
     requires { (6 + K.Kind.code.checks ≤ length text.now) × (all (known K.Kind.code) text.now ≡ true) }
-    ensures { (t : List ℕ) → drop 3 t ≡ text.now → shown result ≡ then (headed Symbol-as-Field.ops K.Kind.code (map (symbol Symbol-as-Field.ops K.Kind.code) text.now)) (λ p. answered (typed t p)) }
+    ensures { (t : List ℕ) → drop 3 t ≡ text.now → shown result ≡ then (headed K.Symbol.Field.ops K.Kind.code (map (symbol K.Symbol.Field.ops K.Kind.code) text.now)) (λ p. answered (typed t p)) }
 {
     let [threshold, _, _, _, _, index, rest @ ..] = text else {
         unreachable()

@@ -71,8 +71,8 @@ impl Register {
 
     // The target's symbol at a place less the register's, by its number.
     pub(crate) fn check_symbol<K: Kind>(&self, j: usize) -> u8
-        requires { j < K-as-Kind.code.checks }
-        ensures { (w : List K-as-Symbol) → take K-as-Kind.code.checks self.now.symbols ≡ numbers K.Symbol.Field.ops w → result ≡ K.Symbol.Field.ops.number (slice_index_or (lessened K.Symbol.Field.ops K-as-Kind.code.target w) j K.Symbol.Field.ops.zero) }
+        requires { j < K.Kind.code.checks }
+        ensures { (w : List K.Symbol) → take K.Kind.code.checks self.now.symbols ≡ numbers K.Symbol.Field.ops w → result ≡ K.Symbol.Field.ops.number (slice_index_or (lessened K.Symbol.Field.ops K.Kind.code.target w) j K.Symbol.Field.ops.zero) }
     {
         reduced::<K>(K::target()[j], K::Symbol::one(), self.symbols[j])
     }

@@ -1,4 +1,6 @@
 // Lines of shares of any kind: reading, checking and writing them.
+#![tactic(auto)]
+
 pub mod bytes;
 pub mod checking;
 mod division;

@@ -9,7 +9,7 @@ use kinds::Kind;
 
 // Whether these are the numbers of four symbols.
 fn is_identifier<K: Kind>(identifier: &[u8]) -> bool
-    ensures { result ≡ (length identifier.now == 4 && all_numbers Symbol-as-Field.ops K.Kind.code identifier.now) }
+    ensures { result ≡ (length identifier.now == 4 && all_numbers K.Symbol.Field.ops K.Kind.code identifier.now) }
 {
     identifier.len() == 4 && are_numbers::<K>(identifier)
 }
@@ -20,9 +20,9 @@ pub fn write_lone<K: Kind>(
     payload: &[u8],
     out: &mut [u8],
 ) -> Result<usize, Refusal>
-    ensures wrote { Wrote (lone_answer Symbol-as-Field.ops K.Kind.code identifier.now payload.now (length out.old)) out.old (shown_count result) out.new }
-    ensures completion { Completion Symbol-as-Field.ops K.Kind.code }
-    ensures accepted { LoneAccepted Symbol-as-Field.ops K.Kind.code }
+    ensures wrote { Wrote (lone_answer K.Symbol.Field.ops K.Kind.code identifier.now payload.now (length out.old)) out.old (shown_count result) out.new }
+    ensures completion { Completion K.Symbol.Field.ops K.Kind.code }
+    ensures accepted { LoneAccepted K.Symbol.Field.ops K.Kind.code }
 {
     if !is_identifier::<K>(identifier) {
         return Err(Refusal::Identifier);

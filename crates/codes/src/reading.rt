@@ -53,7 +53,7 @@ fn scanned<K: Kind>(seen: Cases, text: &[u8]) -> Option<Scan>
         (all (known K.Kind.code) text.now ≡ true)
         × (s.cases.small ≡ (seen.small || any small_letter text.now))
         × (s.cases.capitals ≡ (seen.capitals || any capital_letter text.now))
-        × (take K.Kind.code.checks s.register.symbols ≡ numbers Symbol-as-Field.ops (remainder Symbol-as-Field.ops K.Kind.code.generator (K.Kind.code.start ++ map (symbol Symbol-as-Field.ops K.Kind.code) text.now)))) }
+        × (take K.Kind.code.checks s.register.symbols ≡ numbers K.Symbol.Field.ops (remainder K.Symbol.Field.ops K.Kind.code.generator (K.Kind.code.start ++ map (symbol K.Symbol.Field.ops K.Kind.code) text.now)))) }
 {
     let mut cases = seen;
     let mut register = Register::started::<K>();
@@ -70,10 +70,10 @@ fn scanned<K: Kind>(seen: Cases, text: &[u8]) -> Option<Scan>
 // The data of a text, or the first refusal of its length, prefix, characters and cases.
 pub(crate) fn read<K: Kind>(text: &[u8]) -> Result<Word<'_>, Refusal>
     ensures { MatchResult result (λ w.
-        (read Symbol-as-Field.ops K.Kind.code text.now ≡ answered (map (symbol Symbol-as-Field.ops K.Kind.code) (drop 3 text.now)))
+        (read K.Symbol.Field.ops K.Kind.code text.now ≡ answered (map (symbol K.Symbol.Field.ops K.Kind.code) (drop 3 text.now)))
         × (w.«data».now ≡ drop 3 text.now)
-        × (take K.Kind.code.checks w.register.symbols ≡ numbers Symbol-as-Field.ops (remainder Symbol-as-Field.ops K.Kind.code.generator (K.Kind.code.start ++ map (symbol Symbol-as-Field.ops K.Kind.code) (drop 3 text.now)))))
-        (λ e. read Symbol-as-Field.ops K.Kind.code text.now ≡ refused (number_of e)) }
+        × (take K.Kind.code.checks w.register.symbols ≡ numbers K.Symbol.Field.ops (remainder K.Symbol.Field.ops K.Kind.code.generator (K.Kind.code.start ++ map (symbol K.Symbol.Field.ops K.Kind.code) (drop 3 text.now)))))
+        (λ e. read K.Symbol.Field.ops K.Kind.code text.now ≡ refused (number_of e)) }
 {
     if !has_length::<K>(text.len()) {
         return Err(Refusal::Length);

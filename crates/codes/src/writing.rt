@@ -25,7 +25,7 @@ fn character<K: Kind>(number: u8) -> u8
 
 // Whether each is the number of a symbol.
 pub(crate) fn are_numbers<K: Kind>(symbols: &[u8]) -> bool
-    ensures { result ≡ all_numbers Symbol-as-Field.ops K.Kind.code symbols.now }
+    ensures { result ≡ all_numbers K.Symbol.Field.ops K.Kind.code symbols.now }
 {
     for n in symbols {
         if *n as u16 >= K::Symbol::order() {
@@ -81,7 +81,7 @@ pub(crate) fn write_head<K: Kind>(
 ) -> Register
     requires { (threshold ≤ 9) × ((length identifier.now ≡ 4) × (9 ≤ length out.old)) }
     ensures text { out.new ≡ (K.Kind.code.prefix ++ map (λ n. slice_index K.Kind.code.alphabet n) (head_numbers K.Kind.code threshold identifier.now index)) ++ drop 9 out.old }
-    ensures sum { take K.Kind.code.checks result.symbols ≡ numbers Symbol-as-Field.ops (remainder Symbol-as-Field.ops K.Kind.code.generator (K.Kind.code.start ++ map (numbered Symbol-as-Field.ops) (head_numbers K.Kind.code threshold identifier.now index))) }
+    ensures sum { take K.Kind.code.checks result.symbols ≡ numbers K.Symbol.Field.ops (remainder K.Symbol.Field.ops K.Kind.code.generator (K.Kind.code.start ++ map (numbered K.Symbol.Field.ops) (head_numbers K.Kind.code threshold identifier.now index))) }
 {
     let mut register = Register::started::<K>();
     write_prefix::<K>(out);

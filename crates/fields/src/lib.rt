@@ -1,4 +1,6 @@
 // Finite fields of at most 1,024 elements, with their laws proved.
+#![tactic(auto)]
+
 pub mod elements;
 pub mod field;
 pub mod gf11;

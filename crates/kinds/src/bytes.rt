@@ -11,5 +11,5 @@ pub trait ByteKind: Kind {
     fn takes_bytes(m: usize) -> bool
         ensures { result ≡ takes m };
 
-    ghost whole: { Bytes ByteKind.Symbol.Field.ops Self.Kind.code takes };
+    ghost whole: { Bytes Self.Symbol.Field.ops Self.Kind.code takes };
 }

@@ -1,4 +1,6 @@
 // Kinds of shares: alphabet, fields, checksum code and allowed lengths behind one trait, with the laws of each kind proved.
+#![tactic(auto)]
+
 pub mod bytes;
 pub mod digits;
 pub mod embedding;

@@ -1,4 +1,6 @@
 // The program: a command on each line of standard input, and one line of answer to each on standard output.
+#![tactic(auto)]
+
 mod answers;
 mod arguments;
 mod commands;

@@ -1,4 +1,6 @@
 // Values published with BIP-93 and other known values, each compared with what the library answers.
+#![tactic(auto)]
+
 mod accepted;
 mod buffers;
 mod checks;

@@ -7,33 +7,33 @@ use Rattle.codes.proofs.Checks.{checksum, unread, wrong, right}
 use Rattle.codes.proofs.Readings.{read_passed}
 use Rattle.codes.proofs.checking.check.Goals as goal
 
-pub returns-in-err-word : goal.returns-in-err-word
-returns-in-err-word g c =
-    let (y, is, same) = err_from_is_err_and c.from-residual.result c.from-residual.ensures.1 in
+pub returns-in_err-word : goal.returns-in_err-word
+returns-in_err-word g c =
+    let (y, is, same) = err_from_is_err_and c.from_residual.result c.from_residual.ensures.1 in
     record {
-      answer = ap shown is ∙ ap (λ e. refused (number_of e)) same ∙ sym (unread g.Symbol.Field.ops g.K.Kind.code c.args.text.now _ c.in-err-word.ensures);
-      checksum = checksum g.Symbol.Field.ops g.met.Symbol.Field.lawful g.K.Kind.code;
+      answer = ap shown is ∙ ap (λ e. refused (number_of e)) same ∙ sym (unread g.K.Symbol.Field.ops g.K.Kind.code c.args.text.now _ c.in_err-word.ensures);
+      checksum = checksum g.K.Symbol.Field.ops g.met.K.Symbol.Field.lawful g.K.Kind.code;
     }
 
-pub returns-then-not-reaches-target : goal.returns-then-not-reaches-target
-returns-then-not-reaches-target g c =
-    let word = c.in-ok-word.ensures in
+pub returns-then-not-reaches_target : goal.returns-then-not-reaches_target
+returns-then-not-reaches_target g c =
+    let word = c.in_ok-word.ensures in
     record {
-      answer = wrong g.Symbol.Field.ops g.K.Kind.code c.args.text.now (take g.K.Kind.code.checks c.in-ok-word.word.register.symbols) c.reaches-target.result word.0 word.2 c.reaches-target.ensures c.if-not-reaches-target.true;
-      checksum = checksum g.Symbol.Field.ops g.met.Symbol.Field.lawful g.K.Kind.code;
+      answer = wrong g.K.Symbol.Field.ops g.K.Kind.code c.args.text.now (take g.K.Kind.code.checks c.in_ok-word.word.register.symbols) c.reaches_target.result word.0 word.2 c.reaches_target.ensures c.if-not-reaches_target.true;
+      checksum = checksum g.K.Symbol.Field.ops g.met.K.Symbol.Field.lawful g.K.Kind.code;
     }
 
 pub named-requires : goal.named-requires
 named-requires g c =
-    let word = c.in-ok-word.ensures in
-    rw word.1 (read_passed g.Symbol.Field.ops g.K.Kind.code c.args.text.now _ word.0)
+    let word = c.in_ok-word.ensures in
+    rw word.1 (read_passed g.K.Symbol.Field.ops g.K.Kind.code c.args.text.now _ word.0)
 
 pub returns : goal.returns
 returns g c =
-    let word = c.in-ok-word.ensures in
+    let word = c.in_ok-word.ensures in
     record {
       answer =
           c.named.ensures c.args.text.now (sym word.1)
-          ∙ right g.Symbol.Field.ops g.K.Kind.code c.args.text.now (take g.K.Kind.code.checks c.in-ok-word.word.register.symbols) c.reaches-target.result word.0 word.2 c.reaches-target.ensures c.if-not-reaches-target.false c.in-ok-word.word.«data».now word.1;
-      checksum = checksum g.Symbol.Field.ops g.met.Symbol.Field.lawful g.K.Kind.code;
+          ∙ right g.K.Symbol.Field.ops g.K.Kind.code c.args.text.now (take g.K.Kind.code.checks c.in_ok-word.word.register.symbols) c.reaches_target.result word.0 word.2 c.reaches_target.ensures c.if-not-reaches_target.false c.in_ok-word.word.«data».now word.1;
+      checksum = checksum g.K.Symbol.Field.ops g.met.K.Symbol.Field.lawful g.K.Kind.code;
     }

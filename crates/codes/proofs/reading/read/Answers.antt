@@ -3,34 +3,34 @@ use Rattle.std.proofs.lemmas.List.{take_rest}
 use Rattle.codes.proofs.Readings.{is_read, mixed_is, long_enough, refused_11, refused_12, refused_13, refused_14}
 use Rattle.codes.proofs.reading.read.Goals as goal
 
-pub returns-then-not-has-length : goal.returns-then-not-has-length
-returns-then-not-has-length g c =
-    refused_11 g.Symbol.Field.ops g.K.Kind.code c.args.text.now (sym c.has-length.ensures ∙ c.if-not-has-length.true)
+pub returns-then-not-has_length : goal.returns-then-not-has_length
+returns-then-not-has_length g c =
+    refused_11 g.K.Symbol.Field.ops g.K.Kind.code c.args.text.now (sym c.has_length.ensures ∙ c.if-not-has_length.true)
 
-pub returns-then-not-has-prefix : goal.returns-then-not-has-prefix
-returns-then-not-has-prefix g c =
-    refused_12 g.Symbol.Field.ops g.K.Kind.code c.args.text.now (sym c.has-length.ensures ∙ c.if-not-has-length.false) (sym c.has-prefix.ensures ∙ c.if-not-has-prefix.true)
+pub returns-then-not-has_prefix : goal.returns-then-not-has_prefix
+returns-then-not-has_prefix g c =
+    refused_12 g.K.Symbol.Field.ops g.K.Kind.code c.args.text.now (sym c.has_length.ensures ∙ c.if-not-has_length.false) (sym c.has_prefix.ensures ∙ c.if-not-has_prefix.true)
 
-pub returns-in-default-scanned : goal.returns-in-default-scanned
-returns-in-default-scanned g c =
-    refused_13 g.Symbol.Field.ops g.K.Kind.code c.args.text.now (sym c.has-length.ensures ∙ c.if-not-has-length.false) (sym c.has-prefix.ensures ∙ c.if-not-has-prefix.false) c.in-default-scanned.ensures
+pub returns-in_default-scanned : goal.returns-in_default-scanned
+returns-in_default-scanned g c =
+    refused_13 g.K.Symbol.Field.ops g.K.Kind.code c.args.text.now (sym c.has_length.ensures ∙ c.if-not-has_length.false) (sym c.has_prefix.ensures ∙ c.if-not-has_prefix.false) c.in_default-scanned.ensures
 
 pub returns-then-both : goal.returns-then-both
 returns-then-both g c =
     let t = c.args.text.now in
-    let fit = sym c.has-length.ensures ∙ c.if-not-has-length.false in
-    let long : 3 ≤ length t = omega (arith, long_enough g.Symbol.Field.ops g.K.Kind.code t fit) in
+    let fit = sym c.has_length.ensures ∙ c.if-not-has_length.false in
+    let long : 3 ≤ length t = omega (arith, long_enough g.K.Symbol.Field.ops g.K.Kind.code t fit) in
     let scan = c.in-Some.ensures in
-    refused_14 g.Symbol.Field.ops g.K.Kind.code t fit (sym c.has-prefix.ensures ∙ c.if-not-has-prefix.false) scan.0
+    refused_14 g.K.Symbol.Field.ops g.K.Kind.code t fit (sym c.has_prefix.ensures ∙ c.if-not-has_prefix.false) scan.0
     (sym (mixed_is t long c.none.result c.and.result c.and-2.result c.and-seen.result c.in-Some.scan.cases c.none.ensures c.and.ensures c.and-2.ensures c.and-seen.ensures scan.1 scan.2 c.both.result c.both.ensures) ∙ c.if-both.true)
 
 pub returns : goal.returns
 returns g c =
     let t = c.args.text.now in
-    let fit = sym c.has-length.ensures ∙ c.if-not-has-length.false in
-    let long : 3 ≤ length t = omega (arith, long_enough g.Symbol.Field.ops g.K.Kind.code t fit) in
+    let fit = sym c.has_length.ensures ∙ c.if-not-has_length.false in
+    let long : 3 ≤ length t = omega (arith, long_enough g.K.Symbol.Field.ops g.K.Kind.code t fit) in
     let scan = c.in-Some.ensures in (
-      is_read g.Symbol.Field.ops g.K.Kind.code t fit (sym c.has-prefix.ensures ∙ c.if-not-has-prefix.false) scan.0
+      is_read g.K.Symbol.Field.ops g.K.Kind.code t fit (sym c.has_prefix.ensures ∙ c.if-not-has_prefix.false) scan.0
           (sym (mixed_is t long c.none.result c.and.result c.and-2.result c.and-seen.result c.in-Some.scan.cases c.none.ensures c.and.ensures c.and-2.ensures c.and-seen.ensures scan.1 scan.2 c.both.result c.both.ensures) ∙ c.if-both.false),
       take_rest t 3,
       rw (take_rest t 3) at scan.3,

@@ -13,7 +13,7 @@ loop-c-init g c = (
   refl,
   sym (or_false c.args.seen.small),
   sym (or_false c.args.seen.capitals),
-  c.started-register.ensures ∙ ap (λ w. numbers g.Symbol.Field.ops (remainder g.Symbol.Field.ops g.K.Kind.code.generator w)) (sym (append-nil g.K.Kind.code.start)),
+  c.started-register.ensures ∙ ap (λ w. numbers g.K.Symbol.Field.ops (remainder g.K.Symbol.Field.ops g.K.Kind.code.generator w)) (sym (append-nil g.K.Kind.code.start)),
 )
 
 pub loop-c-preserved : goal.loop-c-preserved
@@ -24,12 +24,12 @@ loop-c-preserved g c =
       any_next small_letter t i c.args.seen.small c.loop-c.cases.small c.and-cases.result.small c.loop-c-test.true c.loop-c.invariant.1 c.and-cases.ensures.0,
       any_next capital_letter t i c.args.seen.capitals c.loop-c.cases.capitals c.and-cases.result.capitals c.loop-c-test.true c.loop-c.invariant.2 c.and-cases.ensures.1,
       c.shift.ensures _ c.loop-c.invariant.3
-          ∙ ap (numbers g.Symbol.Field.ops)
-          (remainder_next g.Symbol.Field.ops g.met.Symbol.Field.lawful g.K.Kind.code g.met.K.Kind.lawful t (symbol g.Symbol.Field.ops g.K.Kind.code) i c.in-Some.s c.loop-c-test.true c.in-Some.ensures.1),
+          ∙ ap (numbers g.K.Symbol.Field.ops)
+          (remainder_next g.K.Symbol.Field.ops g.met.K.Symbol.Field.lawful g.K.Kind.code g.met.K.Kind.lawful t (symbol g.K.Symbol.Field.ops g.K.Kind.code) i c.in-Some.s c.loop-c-test.true c.in-Some.ensures.1),
     )
 
-pub returns-in-default : goal.returns-in-default
-returns-in-default g c = all_fails (known g.K.Kind.code) c.args.text.now c.loop-c.c-index c.loop-c-test.true c.in-default.ensures
+pub returns-in_default : goal.returns-in_default
+returns-in_default g c = all_fails (known g.K.Kind.code) c.args.text.now c.loop-c.c-index c.loop-c-test.true c.in_default.ensures
 
 pub returns : goal.returns
 returns g c = rw (take_all c.loop-c.c-index c.args.text.now c.loop-c-test.false) at c.loop-c.invariant

@@ -6,10 +6,10 @@ use Rattle.codes.specs.Division.{remainder}
 use Rattle.codes.proofs.reading.scanned.Given as goal
 
 -- what is asked for holds of the characters so far
-abbrev pub invariant_loop_c : goal.invariant-loop-c
-invariant_loop_c g l =
+abbrev pub invariant-loop-c : goal.invariant-loop-c
+invariant-loop-c g l =
     (all (known g.K.Kind.code) (take l.c-index l.text) ≡ true)
     × (l.cases.small ≡ (l.initial.cases.small || any small_letter (take l.c-index l.text)))
     × (l.cases.capitals ≡ (l.initial.cases.capitals || any capital_letter (take l.c-index l.text)))
     × (take g.K.Kind.code.checks l.register.symbols
-    ≡ numbers g.Symbol.Field.ops (remainder g.Symbol.Field.ops g.K.Kind.code.generator (g.K.Kind.code.start ++ map (symbol g.Symbol.Field.ops g.K.Kind.code) (take l.c-index l.text))))
+    ≡ numbers g.K.Symbol.Field.ops (remainder g.K.Symbol.Field.ops g.K.Kind.code.generator (g.K.Kind.code.start ++ map (symbol g.K.Symbol.Field.ops g.K.Kind.code) (take l.c-index l.text))))

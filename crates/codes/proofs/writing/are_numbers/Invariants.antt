@@ -3,5 +3,5 @@ use Rattle.codes.specs.Writing.{all_numbers}
 use Rattle.codes.proofs.writing.are_numbers.Given as goal
 
 -- those so far are
-abbrev pub invariant_loop_n : goal.invariant-loop-n
-invariant_loop_n g l = all_numbers g.Symbol.Field.ops g.K.Kind.code (take l.n-index l.symbols) ≡ true
+abbrev pub invariant-loop-n : goal.invariant-loop-n
+invariant-loop-n g l = all_numbers g.K.Symbol.Field.ops g.K.Kind.code (take l.n-index l.symbols) ≡ true

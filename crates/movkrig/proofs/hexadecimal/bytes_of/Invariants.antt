@@ -4,5 +4,5 @@ use Rattle.movkrig.specs.Hexadecimal.{hex_byte}
 use Rattle.movkrig.proofs.hexadecimal.bytes_of.Given as goal
 
 -- the bytes so far
-abbrev pub invariant_loop_i : goal.invariant-loop-i
-invariant_loop_i l = vec_items l.bytes ≡ map (hex_byte l.word) (range_with_len 0 l.i)
+abbrev pub invariant-loop-i : goal.invariant-loop-i
+invariant-loop-i l = vec_items l.bytes ≡ map (hex_byte l.word) (range_with_len 0 l.i)

@@ -3,5 +3,5 @@ use Rattle.movkrig.specs.Symbols.{characters_of}
 use Rattle.movkrig.proofs.symbols.characters.Given as goal
 
 -- those so far
-abbrev pub invariant_loop_n : goal.invariant-loop-n
-invariant_loop_n g l = vec_items l.text ≡ characters_of g.K.Kind.code (take l.n-index l.numbers)
+abbrev pub invariant-loop-n : goal.invariant-loop-n
+invariant-loop-n g l = vec_items l.text ≡ characters_of g.K.Kind.code (take l.n-index l.numbers)

@@ -3,5 +3,5 @@ use Rattle.movkrig.specs.Words.{blank}
 use Rattle.movkrig.proofs.words.run_length.Given as goal
 
 -- the bytes passed so far are alike
-abbrev pub invariant_loop_i : goal.invariant-loop-i
-invariant_loop_i l = (k : ℕ) → k < l.i → blank (get_or l.line k 0) ≡ l.blanks
+abbrev pub invariant-loop-i : goal.invariant-loop-i
+invariant-loop-i l = (k : ℕ) → k < l.i → blank (get_or l.line k 0) ≡ l.blanks

@@ -8,4 +8,4 @@ returns g c =
     let payload = c.as-slice.ensures.value ∙ c.in-ok-payload.ensures in
     let size = c.as-mut-slice.ensures.len ∙ c.in-ok-out.ensures.len in
     c.written.ensures _ _ (wrote_lent c.in-ok-out.out c.decode-count.new.out (omega arith) c.decode-count.ensures)
-    ∙ (λ i. decode_answer g.Symbol.Field.ops g.K.Kind.code (payload i) (size i))
+    ∙ (λ i. decode_answer g.K.Symbol.Field.ops g.K.Kind.code (payload i) (size i))

@@ -4,7 +4,7 @@ use Rattle.codes.specs.Division.{remainder}
 use Rattle.codes.proofs.division.Register.started.Given as goal
 
 -- the register holds the remainder of what has come in
-abbrev pub invariant_loop_s : goal.invariant-loop-s
-invariant_loop_s g l =
+abbrev pub invariant-loop-s : goal.invariant-loop-s
+invariant-loop-s g l =
     take g.K.Kind.code.checks l.register.symbols
-    ≡ numbers g.Symbol.Field.ops (remainder g.Symbol.Field.ops g.K.Kind.code.generator (take l.s-index g.K.Kind.code.start))
+    ≡ numbers g.K.Symbol.Field.ops (remainder g.K.Symbol.Field.ops g.K.Kind.code.generator (take l.s-index g.K.Kind.code.start))
