@@ -52,7 +52,7 @@ fn lone_of<K: Kind>(
     payload: &[u8],
     length: usize,
 ) -> Result<Result<Vec<u8>, Refusal>, AllocError>
-    ensures { IfOk result (λ a. shown_bytes a ≡ lone_answer Symbol-as-Field.ops K.Kind.code (numbers_of K.Kind.code identifier.now) (numbers_of K.Kind.code payload.now) length) }
+    ensures { IfOk result (λ a. shown_bytes a ≡ lone_answer K.Symbol.Field.ops K.Kind.code (numbers_of K.Kind.code identifier.now) (numbers_of K.Kind.code payload.now) length) }
 {
     let identifier = numbers::<K>(heap, identifier)?;
     let payload = numbers::<K>(heap, payload)?;
@@ -116,7 +116,7 @@ fn decode_of<K: ByteKind>(
     payload: &[u8],
     length: usize,
 ) -> Result<Result<Vec<u8>, Refusal>, AllocError>
-    ensures { IfOk result (λ a. shown_bytes a ≡ decode_answer Symbol-as-Field.ops K.Kind.code (numbers_of K.Kind.code payload.now) length) }
+    ensures { IfOk result (λ a. shown_bytes a ≡ decode_answer K.Symbol.Field.ops K.Kind.code (numbers_of K.Kind.code payload.now) length) }
 {
     let payload = numbers::<K>(heap, payload)?;
     let mut out = vec![in heap; 0u8; length]?;

@@ -7,7 +7,7 @@ use Rattle.movkrig.proofs.hexadecimal.bytes_of.Goals as goal
 pub loop-i-preserved : goal.loop-i-preserved
 loop-i-preserved c =
     let byte = ap₂ (λ high low. 16 * high + low) c.value.ensures.value c.value-in-loop-i.ensures.value in
-    c.in-ok-push.ensures.items
+    c.in_ok-push.ensures.items
     ∙ ap₂ (λ before b. before ++ (b ∷ [])) c.loop-i.invariant byte
     ∙ sym (map-range_with_len_more (hex_byte c.args.word.now) 0 c.loop-i.i c.loop-i.i (omega arith))
 

@@ -7,8 +7,8 @@ use Rattle.movkrig.proofs.lengths.read_length.Goals.{then-c-lt48-via-then-c-lt48
 
 pub loop-c-preserved : goal.loop-c-preserved
 loop-c-preserved c = (
-  c.if-length-gt-MOST-LENGTH.false,
-  sym (digit_more c.loop-c.length c.args.word.now c.loop-c.c-index c.loop-c-test.true c.if-c-lt48.false c.if-c-gt57.false c.if-length-gt-MOST-LENGTH.false) ∙ c.loop-c.invariant.1,
+  c.if-length-gt-MOST_LENGTH.false,
+  sym (digit_more c.loop-c.length c.args.word.now c.loop-c.c-index c.loop-c-test.true c.if-c-lt48.false c.if-c-gt57.false c.if-length-gt-MOST_LENGTH.false) ∙ c.loop-c.invariant.1,
 )
 
 pub returns-then-c-lt48 : goal.returns-then-c-lt48
@@ -21,8 +21,8 @@ returns-then-c-lt48 c =
       | then-c-lt48-via-else-c-lt48+then-c-gt57 way ↦ sym (above_digits n w i c.loop-c-test.true way.if-c-gt57.true) ∙ c.loop-c.invariant.1
     ]
 
-pub returns-then-length-gt-MOST-LENGTH : goal.returns-then-length-gt-MOST-LENGTH
-returns-then-length-gt-MOST-LENGTH c =
+pub returns-then-length-gt-MOST_LENGTH : goal.returns-then-length-gt-MOST_LENGTH
+returns-then-length-gt-MOST_LENGTH c =
     sym (above_most c.loop-c.length c.args.word.now c.loop-c.c-index c.loop-c-test.true (omega arith)) ∙ c.loop-c.invariant.1
 
 pub returns : goal.returns

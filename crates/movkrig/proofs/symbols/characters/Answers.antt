@@ -5,8 +5,8 @@ use Rattle.movkrig.proofs.symbols.characters.Goals as goal
 
 pub loop-n-preserved : goal.loop-n-preserved
 loop-n-preserved g c =
-    c.in-ok-push.ensures.items
-    ∙ ap₂ (λ before n. before ++ (n ∷ [])) c.loop-n.invariant (c.unwrap-or.ensures ∙ ap (λ o. unwrap_or o 63) c.symbol-character.ensures)
+    c.in_ok-push.ensures.items
+    ∙ ap₂ (λ before n. before ++ (n ∷ [])) c.loop-n.invariant (c.unwrap_or.ensures ∙ ap (λ o. unwrap_or o 63) c.symbol_character.ensures)
     ∙ sym (map_more (character_of g.K.Kind.code) c.args.numbers.now c.loop-n.n-index 0 c.loop-n-test.true)
 
 pub returns : goal.returns

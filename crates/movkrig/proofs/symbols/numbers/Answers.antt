@@ -5,8 +5,8 @@ use Rattle.movkrig.proofs.symbols.numbers.Goals as goal
 
 pub loop-c-preserved : goal.loop-c-preserved
 loop-c-preserved g c =
-    c.in-ok-push.ensures.items
-    ∙ ap₂ (λ before n. before ++ (n ∷ [])) c.loop-c.invariant (c.unwrap-or.ensures ∙ ap (λ o. unwrap_or o 255) c.symbol-number.ensures)
+    c.in_ok-push.ensures.items
+    ∙ ap₂ (λ before n. before ++ (n ∷ [])) c.loop-c.invariant (c.unwrap_or.ensures ∙ ap (λ o. unwrap_or o 255) c.symbol_number.ensures)
     ∙ sym (map_more (number_of g.K.Kind.code) c.args.text.now c.loop-c.c-index 0 c.loop-c-test.true)
 
 pub returns : goal.returns
