@@ -1,5 +1,5 @@
 -- Lines as texts: a line that is written is read back and accepted, with its parts.
-use Rattle.std.proofs.Common.{◌≡◌, ℕ, zero, suc, ◌+◌, ◌-◌, ◌<◌, ◌≤◌, Bool, true, false, cond, not, ◌&&◌, ◌||◌, eqb, leb, List, [], ◌∷◌, ◌++◌, map, length, get_or, take, drop, replicate, sym, refl, ap, ◌∙◌, subst, ap₂, suc-le-suc, arith, length-append}
+use Rattle.std.proofs.Common.{◌≡◌, ℕ, zero, suc, ◌+◌, ◌-◌, ◌<◌, ◌≤◌, Bool, true, false, not, ◌||◌, eqb, List, [], ◌∷◌, ◌++◌, map, length, get_or, take, drop, replicate, sym, refl, ap, ◌∙◌, subst, ap₂, suc-le-suc, arith, length-append}
 use lib.ListN.{length-map}
 use Rattle.std.proofs.lemmas.List.{drop_at, ext_get_or, get_or-map, take_at, take_rest}
 use Rattle.std.proofs.lemmas.Bool.{and_from, and_left, cond-false, cond-true, eq-eqb, le-leb, lt-leb, lt-ltb, ne_eqb, not_from_false, or_from, or_left, or_right}
@@ -10,8 +10,8 @@ use Rattle.kinds.specs.Code.{Code, Lawful, Plain}
 use Rattle.kinds.specs.Words.{numbers}
 use Rattle.codes.specs.Checking.{Parts, checked, headed, is_codeword, is_threshold}
 use Rattle.codes.specs.Division.{lessened, remainder}
-use Rattle.codes.specs.Reading.{answered, fits, frame, read, then, unless}
-use Rattle.codes.specs.Texts.{all, any, character, known, same_numbers, symbol}
+use Rattle.codes.specs.Reading.{answered, read, then, unless}
+use Rattle.codes.specs.Texts.{all, any, character, known, symbol}
 use Rattle.codes.specs.Writing.{completed, line, line_of}
 use Rattle.codes.proofs.Characters.{symbol_character_lem}
 use Rattle.codes.proofs.Completion.{completed_codeword}

@@ -1,11 +1,11 @@
 -- Writing a lone secret, test by test.
-use Rattle.std.proofs.Common.{◌≡◌, ℕ, ◌+◌, ◌<◌, ◌≤◌, true, false, ◌&&◌, eqb, leb, List, ◌++◌, map, length, drop, sym, refl, ap, ◌∙◌, arith, lit≤}
+use Rattle.std.proofs.Common.{◌≡◌, ℕ, ◌+◌, ◌<◌, ◌≤◌, true, false, ◌&&◌, eqb, leb, List, length, sym, refl, ap, ◌∙◌, arith, lit≤}
 use lib.ListN.{length-map}
 use Rattle.std.proofs.lemmas.Bool.{and_parts, eqb-true, le-leb, lt-leb}
 use Rattle.fields.specs.Field.{Operations, FieldLaws}
 use Rattle.kinds.specs.Code.{Code, Lawful}
 use Rattle.codes.specs.Checking.{checked}
-use Rattle.codes.specs.Reading.{answered, refused, unless}
+use Rattle.codes.specs.Reading.{answered, refused}
 use Rattle.codes.specs.Writing.{LoneAccepted, all_numbers, line_of, lone_answer, lone_parts}
 use Rattle.codes.proofs.Lines.{checked_line, length_line_of}
 use Rattle.codes.proofs.Readings.{answered_same, unless_answered, unless_fails, unless_passes}

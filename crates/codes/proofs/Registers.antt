@@ -11,7 +11,7 @@ use Rattle.fields.specs.Ring.{element_number, one_times}
 use Rattle.kinds.specs.Code.{Code, Lawful}
 use Rattle.kinds.specs.Words.{numbers}
 use Rattle.codes.specs.Division.{reduced, less, lessened, shifted, divided, remainder}
-use Rattle.codes.proofs.Quotients.{length_less, length_shifted}
+use Rattle.codes.proofs.Quotients.{length_shifted}
 
 module _ {E : Type 0} (F : Operations E) (laws : FieldLaws F) where
   -- the element with the number of x is x

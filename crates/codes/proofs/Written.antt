@@ -1,14 +1,13 @@
 -- The line that is written from numbers of symbols is the line with their parts.
-use Rattle.std.proofs.Common.{◌≡◌, ℕ, ◌+◌, ◌<◌, ◌≤◌, true, ltb, List, [], ◌∷◌, ◌++◌, map, length, get_or, replicate, sym, refl, ap, ◌∙◌, ap₂, append_assoc, arith}
+use Rattle.std.proofs.Common.{◌≡◌, ℕ, ◌+◌, ◌<◌, ◌≤◌, true, ltb, List, [], ◌∷◌, ◌++◌, map, get_or, replicate, sym, refl, ap, ◌∙◌, ap₂, append_assoc, arith}
 use mathlib.Core.List.{map-append}
 use Rattle.std.proofs.lemmas.Bool.{and_parts, cond-true, lt-ltb, ltb-true}
 use Rattle.fields.specs.Field.{Operations, FieldLaws}
 use Rattle.fields.specs.Numbered.{numbered}
 use Rattle.kinds.specs.Characters.{capital, place}
 use Rattle.kinds.specs.Code.{Code, Lawful}
-use Rattle.codes.specs.Checking.{Parts}
 use Rattle.codes.specs.Division.{divided, lessened, remainder}
-use Rattle.codes.specs.Texts.{all, character, known, symbol}
+use Rattle.codes.specs.Texts.{character, symbol}
 use Rattle.codes.specs.Writing.{all_numbers, completed, head_numbers, line, line_of}
 use Rattle.codes.proofs.Lines.{threshold_known}
 use Rattle.codes.proofs.Registers.{divided_append, numbered_number}

@@ -1,5 +1,5 @@
 -- Bytes as payload symbols: bits in their order, the highest of each number first, gathered again in groups of another size.
-use Rattle.std.specs.Prelude.{◌≡◌, ℕ, zero, suc, ◌+◌, ◌-◌, ◌*◌, ◌/◌, ◌%◌, ◌^◌, ◌<◌, ◌≤◌, Bool, true, List, map, length, nat_lt, slice_index}
+use Rattle.std.specs.Prelude.{◌≡◌, ℕ, zero, suc, ◌+◌, ◌-◌, ◌*◌, ◌/◌, ◌%◌, ◌^◌, ◌≤◌, Bool, true, List, map, length, nat_lt, slice_index}
 use Rattle.std.specs.List.{range_with_len}
 use Rattle.fields.specs.Field.{Operations}
 use Rattle.kinds.specs.Bytes.{symbols_for}

@@ -1,5 +1,5 @@
 -- Values that are known from elsewhere, by the numbers of the elements.
-use Rattle.std.specs.Prelude.{◌≡◌, ℕ, List, map, drop, codes, slice_index_or}
+use Rattle.std.specs.Prelude.{◌≡◌, ℕ, map, drop, codes, slice_index_or}
 use Rattle.fields.specs.Extensions.{gf121, gf1024}
 use Rattle.fields.specs.Field.{Operations, minus, power}
 use Rattle.fields.specs.Gf11.{gf11}

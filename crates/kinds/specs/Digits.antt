@@ -1,5 +1,5 @@
 -- The code over the digits and X, for 4 to 40 payload symbols.
-use Rattle.std.specs.Prelude.{◌&&◌, List, [], ◌∷◌, map, replicate, codes, nat_le}
+use Rattle.std.specs.Prelude.{◌&&◌, [], ◌∷◌, map, replicate, codes, nat_le}
 use Rattle.fields.specs.Extensions.{gf121}
 use Rattle.fields.specs.Gf11.{gf11}
 use Rattle.fields.specs.declared.gf11.Gf11.{Gf11}

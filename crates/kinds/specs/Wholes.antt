@@ -1,11 +1,10 @@
 -- The counts of bytes that the letters take give allowed counts of symbols: one test of all counts up to 64.
-use Rattle.std.specs.Prelude.{◌≡◌, ℕ, ◌<◌, ◌≤◌, Bool, true, false, not, ◌||◌, T, nat_le, refl}
-use Rattle.std.proofs.Common.{sym, ◌∙◌, ⊎_elim, arith, leb→le, T_not}
+use Rattle.std.specs.Prelude.{◌≡◌, ℕ, ◌≤◌, Bool, true, false, not, ◌||◌, T, nat_le, refl}
+use Rattle.std.proofs.Common.{⊎_elim, arith, T_not}
 use Rattle.std.proofs.lemmas.Bool.{and_parts, leb-true}
 use Rattle.fields.specs.Gf32.{gf32}
 use Rattle.fields.specs.Below.{Each, at}
 use Rattle.kinds.specs.Bytes.{Bytes, symbols_for}
-use Rattle.kinds.specs.Code.{Code}
 use Rattle.kinds.specs.Letters.{long_bytes, long_letters, short_bytes, short_letters}
 use Rattle.kinds.specs.Tests.{either, passed}
 

@@ -1,8 +1,8 @@
 -- One digit more of a length in decimal.
-use Rattle.std.proofs.Common.{◌≡◌, ℕ, ◌+◌, ◌<◌, ◌≤◌, leb, List, length, get_or, drop, None, ◌∙◌}
+use Rattle.std.proofs.Common.{◌≡◌, ℕ, ◌+◌, ◌<◌, ◌≤◌, List, length, get_or, drop, None, ◌∙◌}
 use Rattle.std.proofs.lemmas.List.{at_drop_more}
 use Rattle.std.proofs.lemmas.Bool.{and_from, and_left, and_right, cond-false, cond-true, le-leb, lt-leb}
-use Rattle.movkrig.specs.Lengths.{decimal_next, is_decimal, length_from}
+use Rattle.movkrig.specs.Lengths.{decimal_next, length_from}
 
 module _ (n : ℕ) (w : List ℕ) (i : ℕ) (h : i < length w) where
   pub digit_more : 48 ≤ get_or w i 0 → get_or w i 0 ≤ 57 → decimal_next n (get_or w i 0) ≤ 1024 → length_from n (drop i w) ≡ length_from (decimal_next n (get_or w i 0)) (drop (i + 1) w)

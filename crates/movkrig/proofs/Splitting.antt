@@ -1,5 +1,5 @@
 -- The words of a line by its runs of blank bytes and of others, and a line without the return at its end.
-use Rattle.std.proofs.Common.{◌≡◌, ℕ, zero, suc, ◌<◌, ◌≤◌, true, false, cond, List, [], ◌∷◌, ◌++◌, length, get_or, take, drop, refl, ap, ◌∙◌, add-zero, arith, length-drop, drop_of_length-le, get_or-drop, ne_eqb}
+use Rattle.std.proofs.Common.{◌≡◌, ℕ, zero, suc, ◌<◌, true, false, cond, List, [], ◌∷◌, ◌++◌, length, get_or, take, drop, refl, ap, ◌∙◌, add-zero, arith, length-drop, drop_of_length-le, get_or-drop, ne_eqb}
 use borrow.Author.Tests.{both_ways}
 use Rattle.movkrig.specs.Words.{blank, Run, apart, longer, words, without_return}
 

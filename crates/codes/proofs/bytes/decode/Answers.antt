@@ -1,4 +1,4 @@
-use Rattle.std.proofs.Common.{◌≡◌, ◌++◌, length, drop, sym, ap, ◌∙◌, arith}
+use Rattle.std.proofs.Common.{◌++◌, length, drop, sym, ap, ◌∙◌, arith}
 use Rattle.codes.specs.Bytes.{bytes_in, decoded, regrouped}
 use Rattle.codes.proofs.Bits.{decode_43, decode_53, decode_81, is_decoded, length_regrouped}
 use Rattle.codes.proofs.Buffers.{wrote_answered, wrote_refused}

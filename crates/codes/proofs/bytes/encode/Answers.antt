@@ -1,4 +1,4 @@
-use Rattle.std.proofs.Common.{◌≡◌, ◌++◌, length, drop, sym, ap, ◌∙◌, arith}
+use Rattle.std.proofs.Common.{◌++◌, length, drop, sym, ap, ◌∙◌, arith}
 use Rattle.kinds.specs.Bytes.{symbols_for}
 use Rattle.codes.specs.Bytes.{encoded, regrouped}
 use Rattle.codes.proofs.Bits.{encode_81, is_encoded, length_regrouped, refused_91, whole_bytes}

@@ -1,4 +1,4 @@
-use Rattle.std.proofs.Common.{◌≡◌, ◌+◌, ◌*◌, sym, ap, ◌∙◌, ap₂, add-one, arith}
+use Rattle.std.proofs.Common.{◌+◌, ◌*◌, sym, ap, ◌∙◌, ap₂, add-one, arith}
 use Rattle.codes.specs.Bytes.{gathered}
 use Rattle.codes.proofs.Bits.{bit_small, room_for_more}
 use Rattle.codes.proofs.bytes.gathered.Goals as goal

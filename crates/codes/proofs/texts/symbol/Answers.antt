@@ -1,4 +1,3 @@
-use Rattle.std.proofs.Common.{subst}
 use Rattle.codes.proofs.Characters.{looked_up}
 use Rattle.codes.proofs.texts.symbol.Goals as goal
 

@@ -1,4 +1,4 @@
-use Rattle.std.proofs.Common.{◌≡◌, ℕ, ◌+◌, List, [], ◌∷◌, ◌++◌, map, length, get_or, drop, ap, ◌∙◌, arith, length-append}
+use Rattle.std.proofs.Common.{◌≡◌, ℕ, ◌+◌, [], ◌∷◌, ◌++◌, map, length, get_or, drop, ap, ◌∙◌, arith, length-append}
 use lib.ListN.{length-map}
 use Rattle.fields.specs.Numbered.{numbered}
 use Rattle.kinds.specs.Words.{numbers}

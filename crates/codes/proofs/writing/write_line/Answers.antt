@@ -1,4 +1,4 @@
-use Rattle.std.proofs.Common.{◌≡◌, ℕ, ◌+◌, List, [], ◌∷◌, ◌++◌, map, length, get_or, drop, ap, ◌∙◌, arith, length-append}
+use Rattle.std.proofs.Common.{◌≡◌, ℕ, ◌+◌, [], ◌∷◌, ◌++◌, map, length, get_or, drop, ap, ◌∙◌, arith, length-append}
 use lib.ListN.{length-map}
 use Rattle.codes.specs.Writing.{head_numbers}
 use Rattle.codes.proofs.Written.{written_line}

@@ -1,4 +1,4 @@
-use Rattle.std.proofs.Common.{◌≡◌, vec_items, ap, ◌∙◌, subst}
+use Rattle.std.proofs.Common.{vec_items, ap, ◌∙◌, subst}
 use Rattle.codes.specs.Reading.{answered}
 use Rattle.codes.specs.Shown.{shown_count}
 use Rattle.codes.specs.Writing.{Wrote}

@@ -1,4 +1,4 @@
-use Rattle.std.proofs.Common.{take, sym, ap, ◌∙◌, arith, rules}
+use Rattle.std.proofs.Common.{sym, ap, ◌∙◌, arith, rules}
 use Rattle.codes.specs.Texts.{same_numbers}
 use Rattle.codes.proofs.Registers.{target_size}
 use Rattle.codes.proofs.Scans.{differ_somewhere, same_throughout}

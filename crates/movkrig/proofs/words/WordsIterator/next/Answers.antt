@@ -1,4 +1,4 @@
-use Rattle.std.proofs.Common.{◌≡◌, true, false, ◌∷◌, take, drop, sym, ap, ◌∙◌, subst, arith, rules, true-eqb, false-eqb}
+use Rattle.std.proofs.Common.{false, ◌∷◌, take, drop, sym, ap, ◌∙◌, subst, arith, rules, true-eqb, false-eqb}
 use Rattle.movkrig.specs.Words.{Run, words}
 use Rattle.movkrig.proofs.Splitting.{some_word, no_word}
 use Rattle.movkrig.proofs.words.WordsIterator.next.Goals as goal
