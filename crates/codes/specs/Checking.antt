@@ -1,5 +1,5 @@
 -- Checking a text: whether its data is a codeword, and the parts of the line.
-use Rattle.std.specs.Prelude.{◌≡◌, ℕ, ◌+◌, ◌-◌, Bool, cond, not, ◌&&◌, ◌||◌, List, ◌++◌, length, get_or, take, drop, Decides, ◌==◌, nat_le, slice_index_or}
+use Rattle.std.specs.Prelude.{◌≡◌, ℕ, ◌+◌, ◌-◌, Bool, cond, not, ◌&&◌, ◌||◌, List, ◌++◌, length, take, drop, Decides, ◌==◌, nat_le, slice_index_or}
 use Rattle.fields.specs.Field.{Operations}
 use Rattle.kinds.specs.Code.{Code}
 use Rattle.codes.specs.Reading.{Answer, answered, then, unless, read}
@@ -36,7 +36,7 @@ module _ {E C : Type 0} (F : Operations E) (K : Code E C) where
   abbrev pub headed : List E → Answer (Parts E)
   headed d =
       let c = character F K (slice_index_or d 0 F.zero) in
-      let i = get_or d 5 F.zero in
+      let i = slice_index_or d 5 F.zero in
       unless (is_threshold c) 31
       (unless (not (c == 48) || F.number i == F.number K.secret) 32
       (answered record {

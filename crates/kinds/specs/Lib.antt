@@ -1,3 +1,4 @@
+-- Definitions that contracts cite.
 pub mod Words
 pub mod Code
 pub mod Embedding
@@ -6,6 +7,7 @@ pub mod Letters
 pub mod Digits
 pub mod Roots
 pub mod Bytes
+-- Proofs of the laws: each impl cites its own, and a source can cite nothing below proofs/.
 pub mod Three
 pub mod Subfield
 pub mod Lawful

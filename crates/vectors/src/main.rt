@@ -12,14 +12,18 @@ mod symbols;
 mod tally;
 mod written;
 
+use std::process::ExitCode;
 use tally::Tally;
 
-fn main(rt: HostRuntime) -> anyhow::Result<()> {
-    let result = run(&rt);
-    if let Err(error) = &result {
-        eprintln!(rt; "error: {error}")?;
+// An error is printed here and ends the process with status 1; a main that returned it would print it once more.
+fn main(rt: HostRuntime) -> ExitCode {
+    match run(&rt) {
+        Ok(()) => ExitCode::SUCCESS,
+        Err(error) => {
+            let _ = eprintln!(rt; "error: {error}");
+            ExitCode::FAILURE
+        }
     }
-    result
 }
 
 // A line for each group, and the count of all.
