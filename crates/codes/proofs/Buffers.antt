@@ -1,10 +1,8 @@
 -- Buffers that are written from the front: what stands there already, and behind it what stood there before.
-use Rattle.std.proofs.Common.{◌≡◌, ℕ, ◌+◌, ◌<◌, List, [], ◌∷◌, ◌++◌, map, length, get_or, take, drop, set, sym, ap, ◌∙◌, ap₂, append_assoc, add_assoc, arith, length-append}
-use mathlib.Core.List.{map-append}
-use lib.ListN.{length-map}
+use Rattle.std.proofs.Common.{◌≡◌, ℕ, ◌+◌, ◌<◌, ◌≤◌, List, [], ◌∷◌, ◌++◌, map, length, get_or, take, drop, set, sym, refl, ap, ◌∙◌, ap₂, append_assoc, append-nil, arith}
 use Rattle.codes.specs.Reading.{Answer, answered, refused}
 use Rattle.codes.specs.Writing.{Wrote, counted, written}
-use Rattle.std.proofs.lemmas.List.{drop_more, length-take-le, map_more, set_at}
+use Rattle.std.proofs.lemmas.List.{drop_all, drop_more, length-map, length-take-le, map_more, set_at, take_all}
 
 -- one byte more
 pub put_next : (l o out : List ℕ) (at c : ℕ) → length l ≡ at → at < length o → out ≡ l ++ drop at o → set out at c ≡ (l ++ (c ∷ [])) ++ drop (at + 1) o
@@ -13,22 +11,21 @@ put_next l o out at c long below is =
     ∙ set_at l (get_or o at 0) (drop (at + 1) o) c at long
     ∙ sym (append_assoc l (c ∷ []) (drop (at + 1) o))
 
--- one character more of some
-module _ {A : Type 0} (f : A → ℕ) (symbols : List A) where
-  pub text_next : (d : A) (before o : List ℕ) (at i : ℕ) → i < length symbols
-      → ((before ++ map f (take i symbols)) ++ (f (get_or symbols i d) ∷ [])) ++ drop (at + i + 1) o ≡ (before ++ map f (take (i + 1) symbols)) ++ drop (at + (i + 1)) o
-  text_next d before o at i below =
-      ap₂ ◌++◌ (append_assoc before (map f (take i symbols)) _ ∙ ap (λ m. before ++ m) (sym (map_more f symbols i d below))) (ap (λ n. drop n o) (add_assoc at i 1))
+-- what f gives of some, written over a piece of their length: one more, and all
+module _ {A : Type 0} (f : A → ℕ) (some : List A) (o out : List ℕ) (i : ℕ) (is : out ≡ map f (take i some) ++ drop i o) where
+  pub put_more : (d : A) (c : ℕ) → i < length some → i < length o → c ≡ f (get_or some i d) → set out i c ≡ map f (take (i + 1) some) ++ drop (i + 1) o
+  put_more d c below room e =
+      put_next (map f (take i some)) o out i c (length-map (take i some) f ∙ length-take-le i some (omega arith)) room is
+      ∙ ap (λ l. l ++ drop (i + 1) o) (ap (λ x. map f (take i some) ++ (x ∷ [])) e ∙ sym (map_more f some i d below))
 
-  pub text_length : (before : List ℕ) (at i : ℕ) → i < length symbols → length before ≡ at → length (before ++ map f (take i symbols)) ≡ at + i
-  text_length before at i below long =
-      length-append before (map f (take i symbols)) ∙ ap₂ ◌+◌ long (length-map (take i symbols) f ∙ length-take-le i symbols (omega arith))
+  pub put_all : length some ≤ i → length o ≡ length some → out ≡ map f some
+  put_all done long =
+      is ∙ ap₂ (λ s r. map f s ++ r) (take_all i some done) (drop_all i o (omega arith)) ∙ append-nil (map f some)
 
--- the head: a prefix, then one character, some, and one
-pub head_joins : (f : ℕ → ℕ) (prefix some : List ℕ) (first last : ℕ)
-    → ((prefix ++ (f first ∷ [])) ++ map f some) ++ (f last ∷ []) ≡ prefix ++ map f (first ∷ (some ++ (last ∷ [])))
-head_joins f prefix some first last =
-    append_assoc (prefix ++ (f first ∷ [])) (map f some) (f last ∷ []) ∙ append_assoc prefix (f first ∷ []) _ ∙ ap (λ m. prefix ++ (f first ∷ m)) (sym (map-append f some (last ∷ [])))
+-- one function after another
+pub map_both : {A B : Type 0} (f : B → ℕ) (h : A → B) (some : List A) → map (λ x. f (h x)) some ≡ map f (map h some)
+map_both f h [] = refl
+map_both f h (x ∷ some) = ap (λ l. f (h x) ∷ l) (map_both f h some)
 
 -- what a writing call leaves, refused and answered
 pub wrote_refused : (a : Answer (List ℕ)) (out : List ℕ) (n : ℕ) → a ≡ refused n → Wrote a out (refused n) out

@@ -1,5 +1,5 @@
 -- Checking from its steps: reading, the checksum and the head.
-use Rattle.std.proofs.Common.{◌≡◌, ℕ, Bool, true, false, List, ◌++◌, map, drop, sym, ap, ◌∙◌, ap₂}
+use Rattle.std.proofs.Common.{◌≡◌, ℕ, Bool, true, false, List, ◌++◌, map, sym, ap, ◌∙◌}
 use Rattle.fields.specs.Field.{Operations, FieldLaws}
 use Rattle.codes.specs.Checking.{Checksum, Typed, check_answer, checked, headed, is_codeword, typed}
 use Rattle.kinds.specs.Code.{Code}
@@ -24,21 +24,20 @@ module _ {E C : Type 0} (F : Operations E) (K : Code E C) (t : List ℕ) where
   unfolding checked
   unread n e = ap (λ a. then (then a (λ d. unless (is_codeword F K d) 21 (headed F K d))) (λ p. answered (typed t p))) e
 
-  -- what is read, with the numbers of its remainder, and whether these are the target's
-  module _ (held : List ℕ) (reaches : Bool) (is_read : read F K t ≡ answered (map (symbol F K) (drop 3 t)))
-      (holds : held ≡ numbers F (remainder F K.generator (K.start ++ map (symbol F K) (drop 3 t))))
-      (is_reached : reaches ≡ same_numbers held (numbers F K.target)) where
-    abbrev after : Bool → List E → Answer Typed
-    after b d = then (unless b 21 (headed F K d)) (λ p. answered (typed t p))
+  -- what is read, with its remainder, and whether that is the target
+  module _ (u : List ℕ) (register : List E) (reaches : Bool) (is_read : read F K t ≡ answered (map (symbol F K) u)) (holds : register ≡ remainder F K.generator (K.start ++ map (symbol F K) u))
+      (is_reached : reaches ≡ same_numbers (numbers F register) (numbers F K.target)) where
+    abbrev after : Bool → Answer Typed
+    after b = then (unless b 21 (headed F K (map (symbol F K) u))) (λ p. answered (typed t p))
 
-    after_reading : check_answer F K t ≡ after reaches (map (symbol F K) (drop 3 t))
+    after_reading : check_answer F K t ≡ after reaches
     unfolding checked
     after_reading =
         ap (λ a. then (then a (λ d. unless (is_codeword F K d) 21 (headed F K d))) (λ p. answered (typed t p))) is_read
-        ∙ ap (λ b. after b (map (symbol F K) (drop 3 t))) (sym (is_reached ∙ ap (λ h. same_numbers h (numbers F K.target)) holds))
+        ∙ ap after (sym (is_reached ∙ ap (λ r. same_numbers (numbers F r) (numbers F K.target)) holds))
 
     pub wrong : reaches ≡ false → refused 21 ≡ check_answer F K t
-    wrong e = sym (after_reading ∙ ap (λ b. after b (map (symbol F K) (drop 3 t))) e)
+    wrong e = sym (after_reading ∙ ap after e)
 
-    pub right : reaches ≡ true → (u : List ℕ) → u ≡ drop 3 t → then (headed F K (map (symbol F K) u)) (λ p. answered (typed t p)) ≡ check_answer F K t
-    right e u is_data = sym (after_reading ∙ ap₂ (λ b v. after b (map (symbol F K) v)) e (sym is_data))
+    pub right : reaches ≡ true → then (headed F K (map (symbol F K) u)) (λ p. answered (typed t p)) ≡ check_answer F K t
+    right e = sym (after_reading ∙ ap after e)

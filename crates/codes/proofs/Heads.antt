@@ -1,7 +1,6 @@
 -- The head of a line: what its characters say, and the parts that it has.
 use Rattle.std.proofs.Common.{◌≡◌, ℕ, ◌+◌, ◌-◌, ◌<◌, ◌≤◌, true, false, not, ◌&&◌, ◌||◌, eqb, leb, List, map, length, get_or, take, drop, sym, refl, ap, ◌∙◌, ap₂, ⊎_elim, arith, length-drop}
-use lib.ListN.{length-map}
-use Rattle.std.proofs.lemmas.List.{drop-drop, get_or-map, length-take-le, take_rest}
+use Rattle.std.proofs.lemmas.List.{drop-drop, get_or-map, length-map, length-take-le, take_rest}
 use Rattle.std.proofs.lemmas.Bool.{and_parts, cond-false, cond-true, eq-eqb, eqb-true, leb-true, ne_eqb, not_from_false, not_from_true, or_cases, or_from, or_left, or_right}
 use Rattle.fields.specs.Field.{Operations, FieldLaws}
 use Rattle.codes.specs.Checking.{Excerpt, Parts, Typed, excerpt, headed, is_threshold, lone, share, typed}

@@ -10,4 +10,5 @@ pub mod Completion
 pub mod Lines
 pub mod Written
 pub mod Lones
-pub mod Bits
+pub mod Groups
+pub mod Payloads

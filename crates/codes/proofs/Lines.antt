@@ -1,7 +1,6 @@
 -- Lines as texts: a line that is written is read back and accepted, with its parts.
 use Rattle.std.proofs.Common.{◌≡◌, ℕ, zero, suc, ◌+◌, ◌-◌, ◌<◌, ◌≤◌, Bool, true, false, not, ◌||◌, eqb, List, [], ◌∷◌, ◌++◌, map, length, get_or, take, drop, replicate, sym, refl, ap, ◌∙◌, subst, ap₂, suc-le-suc, arith, length-append}
-use lib.ListN.{length-map}
-use Rattle.std.proofs.lemmas.List.{drop_at, ext_get_or, get_or-map, take_at, take_rest}
+use Rattle.std.proofs.lemmas.List.{drop_at, ext_get_or, get_or-map, length-map, take_at, take_rest}
 use Rattle.std.proofs.lemmas.Bool.{and_from, and_left, cond-false, cond-true, eq-eqb, le-leb, lt-leb, lt-ltb, ne_eqb, not_from_false, or_from, or_left, or_right}
 use Rattle.fields.specs.Field.{Operations, FieldLaws}
 use Rattle.fields.specs.Ring.{element_number}
@@ -42,7 +41,7 @@ any_none f [] h = refl
 any_none f (u ∷ us) h = or_from _ _ (h 0 (omega arith)) (any_none f us (λ i below. h (suc i) (suc-le-suc below)))
 
 -- a list of four
-four : {E : Type 0} (us : List E) → length us ≡ 4 → (a b c d : E) × (us ≡ a ∷ b ∷ c ∷ d ∷ [])
+pub four : {E : Type 0} (us : List E) → length us ≡ 4 → (a b c d : E) × (us ≡ a ∷ b ∷ c ∷ d ∷ [])
 four [] e = absurd (omega arith)
 four (a ∷ []) e = absurd (omega arith)
 four (a ∷ b ∷ []) e = absurd (omega arith)

@@ -1,13 +1,15 @@
 -- Writing a lone secret, test by test.
-use Rattle.std.proofs.Common.{◌≡◌, ℕ, ◌+◌, ◌<◌, ◌≤◌, true, false, ◌&&◌, eqb, leb, List, length, sym, refl, ap, ◌∙◌, arith, lit≤}
-use lib.ListN.{length-map}
+use Rattle.std.proofs.Common.{◌≡◌, ℕ, ◌+◌, ◌<◌, ◌≤◌, true, false, ◌&&◌, ◌++◌, eqb, leb, List, map, length, sym, refl, ap, ◌∙◌, arith, lit≤}
+use Rattle.std.proofs.lemmas.List.{length-map}
 use Rattle.std.proofs.lemmas.Bool.{and_parts, eqb-true, le-leb, lt-leb}
 use Rattle.fields.specs.Field.{Operations, FieldLaws}
 use Rattle.kinds.specs.Code.{Code, Lawful}
 use Rattle.codes.specs.Checking.{checked}
 use Rattle.codes.specs.Reading.{answered, refused}
-use Rattle.codes.specs.Writing.{LoneAccepted, all_numbers, line_of, lone_answer, lone_parts}
+use Rattle.fields.specs.Numbered.{numbered}
+use Rattle.codes.specs.Writing.{LoneAccepted, all_numbers, completed, head_numbers, line, line_of, lone_answer, lone_parts}
 use Rattle.codes.proofs.Lines.{checked_line, length_line_of}
+use Rattle.codes.proofs.Written.{front_is}
 use Rattle.codes.proofs.Readings.{answered_same, unless_answered, unless_fails, unless_passes}
 
 zero_one : ◌≡◌ {A = ℕ} 0 1 → ⊥
@@ -29,6 +31,14 @@ module _ {E C : Type 0} (F : Operations E) (laws : FieldLaws F) {G : Operations 
 
       pub id_below : all_numbers F K id ≡ true
       id_below = (and_parts (eqb (length id) 4) (all_numbers F K id) named).1
+
+      -- the line that is written from the numbers is that of the parts
+      pub lone_line : all_numbers F K pl ≡ true → (four : List ℕ) (x : ℕ) → four ≡ id → x ≡ F.number K.secret
+          → line F K (completed F K (map (numbered F) (head_numbers K 0 four x ++ pl))) ≡ line_of F K (lone_parts F K id pl)
+      unfolding line_of
+      lone_line pl_below four x same is_x =
+          ap (λ us. line F K (completed F K (map (numbered F) (head_numbers K 0 us x ++ pl)))) same
+          ∙ ap (λ h. line F K (completed F K h)) (front_is F laws K lawful 0 (lit≤ tt) zero_one id pl x K.secret is_x id_below pl_below)
 
       pub refused_43 : K.allows (length pl) ≡ false → lone_answer F K id pl size ≡ refused 43
       unfolding lone_answer

@@ -1,9 +1,8 @@
 -- Words entry by entry, and their long division: the remainder is linear in the word, and the last symbols of a word go
 -- into it as they are.
-use Rattle.std.proofs.Common.{◌≡◌, ℕ, zero, suc, ◌+◌, List, [], ◌∷◌, ◌++◌, length, replicate, sym, refl, ap, ◌∙◌, ap₂, append_assoc, append-nil, suc-add, zero-add, suc-ne-zero, arith, length-append}
-use mathlib.Core.List.{head-eq_of_cons-eq, tail-eq_of_cons-eq}
-use native.Mathlib.Nat.{suc_inj}
-use lib.ListN.{length-replicate}
+use Rattle.std.proofs.Common.{◌≡◌, ℕ, zero, suc, ◌+◌, List, [], ◌∷◌, ◌++◌, length, get_or, drop, replicate, sym, refl, ap, ◌∙◌, ap₂, append_assoc, append-nil, suc-add, zero-add, suc-ne-zero, arith, length-append}
+use Rattle.std.proofs.Math.Nat.{suc_inj}
+use Rattle.std.proofs.lemmas.List.{length-replicate}
 use Rattle.fields.specs.Field.{Operations, FieldLaws, minus}
 use Rattle.fields.specs.Ring.{ring_neg, zero_times, plus_cancel, minus_zero}
 use Rattle.codes.specs.Division.{lessened, less, shifted, divided, remainder, quotient, product, Division, Remainders}
@@ -53,8 +52,8 @@ module _ {E : Type 0} (F : Operations E) (laws : FieldLaws F) where
   lessened_cancel (a ∷ u) [] w eu ev same = absurd (suc-ne-zero (length u) (eu ∙ sym ev))
   lessened_cancel (a ∷ u) (b ∷ v) [] eu ev same = same
   lessened_cancel (a ∷ u) (b ∷ v) (c ∷ w) eu ev same =
-      let heads : neg c ⊕ a ≡ neg c ⊕ b = laws.plus_comm (neg c) a ∙ head-eq_of_cons-eq same ∙ laws.plus_comm b (neg c) in
-      ap₂ ◌∷◌ (plus_cancel F laws (neg c) a b heads) (lessened_cancel u v w (suc_inj eu) (suc_inj ev) (tail-eq_of_cons-eq same))
+      let heads : neg c ⊕ a ≡ neg c ⊕ b = laws.plus_comm (neg c) a ∙ ap (λ l. get_or l 0 F.zero) same ∙ laws.plus_comm b (neg c) in
+      ap₂ ◌∷◌ (plus_cancel F laws (neg c) a b heads) (lessened_cancel u v w (suc_inj eu) (suc_inj ev) (ap (drop 1) same))
 
   -- The length of the remainder
 
@@ -220,14 +219,14 @@ module _ {E : Type 0} (F : Operations E) (laws : FieldLaws F) where
   whole_unique g [] (t ∷ q) (t' ∷ q') r r' e long whole whole' = absurd (omega (arith, long, suc-add (length q) (length g)))
   whole_unique g (a ∷ w) (t ∷ q) (t' ∷ q') r r' e long whole whole' =
       whole_unique g (less F t w g) q q' r r' (suc_inj e) (length_less t w g ∙ shorter)
-      (less_swap t w (product F g q) g (shorter ∙ sym (length_product g q)) ∙ tail-eq_of_cons-eq whole)
-      (less_swap t w (product F g q') g (shorter ∙ ap (λ n. n + length g) (suc_inj e) ∙ sym (length_product g q')) ∙ ap (λ u. lessened F w (less F (neg u) (product F g q') g)) same ∙ tail-eq_of_cons-eq whole')
+      (less_swap t w (product F g q) g (shorter ∙ sym (length_product g q)) ∙ ap (drop 1) whole)
+      (less_swap t w (product F g q') g (shorter ∙ ap (λ n. n + length g) (suc_inj e) ∙ sym (length_product g q')) ∙ ap (λ u. lessened F w (less F (neg u) (product F g q') g)) same ∙ ap (drop 1) whole')
     where
       shorter : length w ≡ length q + length g
       shorter = omega (arith, long)
 
       same : t ≡ t'
-      same = sym (minus_zero F laws a t (head-eq_of_cons-eq whole)) ∙ minus_zero F laws a t' (head-eq_of_cons-eq whole')
+      same = sym (minus_zero F laws a t (ap (λ l. get_or l 0 F.zero) whole)) ∙ minus_zero F laws a t' (ap (λ l. get_or l 0 F.zero) whole')
 
   -- the division divides
   pub divides : (g w : List E) → Division F g w (quotient F g (zeros F (length g)) w) (remainder F g w)

@@ -1,5 +1,5 @@
 -- Values that are known from elsewhere, by the numbers of the elements.
-use Rattle.std.specs.Prelude.{◌≡◌, ℕ, map, drop, codes, slice_index_or}
+use Rattle.std.specs.Prelude.{◌≡◌, ℕ, map, drop, codes, slice_index}
 use Rattle.fields.specs.Extensions.{gf121, gf1024}
 use Rattle.fields.specs.Field.{Operations, minus, power}
 use Rattle.fields.specs.Gf11.{gf11}
@@ -38,7 +38,7 @@ pub record Known : Type 0 where
   pub gf121_23_to_6 : Power gf121 23 6 7
   pub gf121_23_to_30 : Power gf121 23 30 10
   -- the symbol before X^13, and the last
-  pub digit_generator_first : slice_index_or (numbers gf11 digits.generator) 0 0 ≡ 3
-  pub digit_generator_last : slice_index_or (numbers gf11 digits.generator) 13 0 ≡ 8
+  pub digit_generator_first : slice_index (numbers gf11 digits.generator) 0 ≡ 3
+  pub digit_generator_last : slice_index (numbers gf11 digits.generator) 13 ≡ 8
   -- the first share of the second test vector of BIP-93
   pub bip93_share : Codeword gf32 short_letters (map (symbol gf32 short_letters) (drop 3 (codes "MS12NAMEA320ZYXWVUTSRQPNMLKJHGFEDCAXRPP870HKKQRM")))

@@ -6,4 +6,5 @@ pub mod Checking
 pub mod Shown
 pub mod Writing
 pub mod Bytes
+pub mod Bits
 pub mod Known

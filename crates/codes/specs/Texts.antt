@@ -1,17 +1,17 @@
 -- Texts are lists of bytes: tests of their characters, and the symbols that these stand for.
-use Rattle.std.specs.Prelude.{◌≡◌, ℕ, Bool, true, false, cond, ◌&&◌, ◌||◌, List, [], ◌∷◌, length, Some, None, Option, ◌==◌, nat_lt, slice_index}
+use Rattle.std.specs.Prelude.{◌≡◌, ℕ, Bool, true, false, cond, ◌&&◌, List, length, Some, None, Option, nat_lt, slice_index}
+use Rattle.std.specs.List.{list_all, list_any}
+use Rattle.std.specs.Str.{bytes_eq}
 use Rattle.fields.specs.Field.{Operations}
 use Rattle.kinds.specs.Characters.{capital, capital_letter, place, small_letter}
 use Rattle.kinds.specs.Code.{Code}
 
 -- whether some character passes, and whether each does
 abbrev pub any : (ℕ → Bool) → List ℕ → Bool
-any f [] = false
-any f (c ∷ cs) = f c || any f cs
+any = list_any
 
 abbrev pub all : (ℕ → Bool) → List ℕ → Bool
-all f [] = true
-all f (c ∷ cs) = f c && all f cs
+all = list_all
 
 -- whether a text mixes small letters and capitals
 abbrev pub both_cases : List ℕ → Bool
@@ -19,10 +19,7 @@ both_cases t = any small_letter t && any capital_letter t
 
 -- whether two lists are equal
 abbrev pub same_numbers : List ℕ → List ℕ → Bool
-same_numbers [] [] = true
-same_numbers [] (y ∷ ys) = false
-same_numbers (x ∷ xs) [] = false
-same_numbers (x ∷ xs) (y ∷ ys) = x == y && same_numbers xs ys
+same_numbers = bytes_eq
 
 -- whether a character, in either case, is in the alphabet
 abbrev pub known : {E C : Type 0} → Code E C → ℕ → Bool

@@ -1,13 +1,13 @@
 // Checking: a text is refused, or it is a line whose parts are named.
-ghost use Rattle.std.specs.Prelude.{◌≡◌, ℕ, ◌+◌, ◌≤◌, true, List, map, length, drop, ◌==◌};
+ghost use Rattle.std.specs.Prelude.{◌≡◌, ℕ, ◌+◌, ◌≤◌, List, map, length, drop, ◌==◌};
 ghost use Rattle.codes.specs.Checking.{Checksum, check_answer, headed, is_threshold, typed};
 ghost use Rattle.codes.specs.Reading.{answered, then};
 ghost use Rattle.codes.specs.Shown.{shown};
-ghost use Rattle.codes.specs.Texts.{all, known, symbol};
+ghost use Rattle.codes.specs.Texts.{symbol};
 ghost use Rattle.kinds.specs.Characters.{capital, place};
 
 use crate::parts::{Line, Part};
-use crate::reading::read;
+use crate::reading::{Word, read};
 use crate::refusals::Refusal;
 use crate::texts::{capital, place_of};
 use kinds::Kind;
@@ -18,17 +18,17 @@ pub fn check<K: Kind>(text: &[u8]) -> Result<Line<'_>, Refusal>
     ensures checksum { Checksum K.Symbol.Field.ops K.Kind.code }
 {
     let word = read::<K>(text)?;
-    if !word.register.reaches_target::<K>() {
+    if !word.register.is_target() {
         return Err(Refusal::Checksum);
     }
-    named::<K>(word.data)
+    named(word)
 }
 
 // Whether a character is 0 or 2 to 9.
 fn is_threshold(c: u8) -> bool
     ensures { result ≡ is_threshold c }
 {
-    c == b'0' || (b'2' <= c && c <= b'9')
+    matches!(c, b'0' | b'2'..=b'9')
 }
 
 // Whether a character stands for the secret's index.
@@ -38,11 +38,12 @@ fn is_secret<K: Kind>(c: u8) -> bool
     place_of::<K>(c) == K::secret_number()
 }
 
-// The parts of data whose characters are all in the alphabet.
-fn named<K: Kind>(text: &[u8]) -> Result<Line<'_>, Refusal>
-    requires { (6 + K.Kind.code.checks ≤ length text.now) × (all (known K.Kind.code) text.now ≡ true) }
-    ensures { (t : List ℕ) → drop 3 t ≡ text.now → shown result ≡ then (headed K.Symbol.Field.ops K.Kind.code (map (symbol K.Symbol.Field.ops K.Kind.code) text.now)) (λ p. answered (typed t p)) }
+// The parts of data.
+fn named<K: Kind>(word: Word<'_, K>) -> Result<Line<'_>, Refusal>
+    requires { 6 + K.Kind.code.checks ≤ length word.«data».now }
+    ensures { (t : List ℕ) → drop 3 t ≡ word.entry.«data».now → shown result ≡ then (headed K.Symbol.Field.ops K.Kind.code (map (symbol K.Symbol.Field.ops K.Kind.code) word.entry.«data».now)) (λ p. answered (typed t p)) }
 {
+    let text = word.data;
     let [threshold, _, _, _, _, index, rest @ ..] = text else {
         unreachable()
     };

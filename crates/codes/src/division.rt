@@ -1,79 +1,104 @@
-// Long division by a kind's generator, one symbol at a time. The register holds the numbers of its symbols; the entry behind
-// them takes the symbol that comes in.
-ghost use Rattle.std.specs.Prelude.{◌≡◌, ◌<◌, List, take, replicate, slice_index_or};
+// Long division by a kind's generator, one symbol at a time.
+ghost use Rattle.std.specs.Prelude.{◌≡◌, true, List, map, take, replicate};
+ghost use Rattle.codes.specs.Division.{divided, lessened, remainder, shifted};
 ghost use Rattle.codes.specs.Texts.{same_numbers};
+ghost use Rattle.codes.specs.Writing.{all_numbers};
+ghost use Rattle.fields.specs.Field.{minus};
+ghost use Rattle.fields.specs.Numbered.{numbered};
 ghost use Rattle.kinds.specs.Words.{numbers};
-ghost use Rattle.codes.specs.Division.{divided, lessened, reduced, remainder, shifted};
 
 use fields::{Field, numbered};
 use kinds::Kind;
+use std::marker::{Model, PhantomData};
 
-#[derive(Clone, Copy)]
-pub(crate) struct Register {
-    symbols: [u8; 16],
+// The remainder of what came in: a word of as many symbols as there are check symbols. The entries are the numbers of its symbols;
+// the one behind them takes the symbol that comes in.
+#[derive(Drop)]
+pub(crate) struct Register<K: Kind> {
+    entries: [u8; 16],
+    kind: PhantomData<K>,
 }
 
-// The number of what stands above, less top times the coefficient.
-fn reduced<K: Kind>(above: u8, top: K::Symbol, coefficient: u8) -> u8
-    ensures { result ≡ reduced K.Symbol.Field.ops above top coefficient }
+impl<K: Kind> Model for Register<K> {
+    ghost Value = { List K.Symbol };
+
+    ghost view = { λ r. map (numbered K.Symbol.Field.ops) (take K.Kind.code.checks r.entries) };
+
+    ghost invariant = { λ r. all_numbers K.Symbol.Field.ops K.Kind.code (take K.Kind.code.checks r.entries) ≡ true };
+}
+
+// One element less another.
+fn minus<F: Field>(x: F, y: F) -> F
+    ensures { result ≡ minus F.Field.ops x y }
 {
-    let multiple = top.mul(numbered(coefficient as u16));
-    numbered::<K::Symbol>(above as u16)
-        .add(multiple.neg())
-        .number() as u8
+    x.add(y.neg())
 }
 
-impl Register {
-    // One step: a symbol comes in.
-    pub(crate) fn shift<K: Kind>(&mut self, symbol: K::Symbol)
-        ensures { (w : List K.Symbol) → take K.Kind.code.checks self.old.symbols ≡ numbers K.Symbol.Field.ops w → take K.Kind.code.checks self.new.symbols ≡ numbers K.Symbol.Field.ops (shifted K.Symbol.Field.ops K.Kind.code.generator w symbol) }
-    {
-        let generator = K::generator();
-        let top: K::Symbol = numbered(self.symbols[0] as u16);
-        self.symbols[generator.len()] = symbol.number() as u8;
-        for j in 0..generator.len() {
-            self.symbols[j] = reduced::<K>(self.symbols[j + 1], top, generator[j]);
-        }
-    }
-
+impl<K: Kind> Register<K> {
     // The register after the start word.
-    pub(crate) fn started<K: Kind>() -> Register
-        ensures { take K.Kind.code.checks result.symbols ≡ numbers K.Symbol.Field.ops (remainder K.Symbol.Field.ops K.Kind.code.generator K.Kind.code.start) }
+    pub(crate) fn started() -> Register<K>
+        ensures { result ≡ remainder K.Symbol.Field.ops K.Kind.code.generator K.Kind.code.start }
     {
-        let mut register = Register { symbols: [0; 16] };
-        for s in K::start() {
-            register.shift::<K>(numbered(*s as u16));
-        }
+        let mut register = Register {
+            entries: [0; 16],
+            kind: PhantomData,
+        };
+        register.shift_all(K::start());
         register
     }
 
-    // Whether the register holds the target.
-    pub(crate) fn reaches_target<K: Kind>(&self) -> bool
-        ensures { result ≡ same_numbers (take K.Kind.code.checks self.now.symbols) (numbers K.Symbol.Field.ops K.Kind.code.target) }
+    // One step: a symbol comes in.
+    pub(crate) fn shift(&mut self, symbol: K::Symbol)
+        ensures { self.new ≡ shifted K.Symbol.Field.ops K.Kind.code.generator self.old symbol }
     {
-        let target = K::target();
-        for j in 0..target.len() {
-            if self.symbols[j] != target[j] {
-                return false;
-            }
+        let generator = K::generator();
+        let top: K::Symbol = numbered(u16::from(self.entries[0]));
+        self.entries[generator.len()] = symbol.number() as u8;
+        for (j, g) in generator.iter().enumerate() {
+            let next: K::Symbol = numbered(u16::from(self.entries[j + 1]));
+            let multiple = top.mul(numbered(u16::from(*g)));
+            self.entries[j] = minus(next, multiple).number() as u8;
         }
-        true
+    }
+
+    // Symbols come in, given by their numbers.
+    pub(crate) fn shift_all(&mut self, numbers: &[u8])
+        ensures { self.new ≡ divided K.Symbol.Field.ops K.Kind.code.generator self.old (map (numbered K.Symbol.Field.ops) numbers.now) }
+    {
+        for n in numbers {
+            self.shift(numbered(u16::from(*n)));
+        }
     }
 
     // Zeros come in, as many as there are check symbols.
-    pub(crate) fn shift_zeros<K: Kind>(&mut self)
-        ensures { (w : List K.Symbol) → take K.Kind.code.checks self.old.symbols ≡ numbers K.Symbol.Field.ops w → take K.Kind.code.checks self.new.symbols ≡ numbers K.Symbol.Field.ops (divided K.Symbol.Field.ops K.Kind.code.generator w (replicate K.Kind.code.checks K.Symbol.Field.ops.zero)) }
+    pub(crate) fn shift_zeros(&mut self)
+        ensures { self.new ≡ divided K.Symbol.Field.ops K.Kind.code.generator self.old (replicate K.Kind.code.checks K.Symbol.Field.ops.zero) }
     {
-        for _i in 0..K::check_symbols() {
-            self.shift::<K>(K::Symbol::zero());
+        let zeros = [0; 16];
+        self.shift_all(&zeros[..K::check_symbols()]);
+    }
+
+    // Whether the register holds the target.
+    pub(crate) fn is_target(&self) -> bool
+        ensures { result ≡ same_numbers (numbers K.Symbol.Field.ops self.now) (numbers K.Symbol.Field.ops K.Kind.code.target) }
+    {
+        self.numbers() == K::target()
+    }
+
+    // The target less the register: the symbols that make the data in front of them a codeword, where as many zeros came in last.
+    pub(crate) fn complete(&mut self)
+        ensures { self.new ≡ lessened K.Symbol.Field.ops K.Kind.code.target self.old }
+    {
+        for (j, t) in K::target().iter().enumerate() {
+            let target: K::Symbol = numbered(u16::from(*t));
+            self.entries[j] = minus(target, numbered(u16::from(self.entries[j]))).number() as u8;
         }
     }
 
-    // The target's symbol at a place less the register's, by its number.
-    pub(crate) fn check_symbol<K: Kind>(&self, j: usize) -> u8
-        requires { j < K.Kind.code.checks }
-        ensures { (w : List K.Symbol) → take K.Kind.code.checks self.now.symbols ≡ numbers K.Symbol.Field.ops w → result ≡ K.Symbol.Field.ops.number (slice_index_or (lessened K.Symbol.Field.ops K.Kind.code.target w) j K.Symbol.Field.ops.zero) }
+    // The numbers of its symbols.
+    pub(crate) fn numbers(&self) -> &[u8]
+        ensures { result.now ≡ numbers K.Symbol.Field.ops self.now }
     {
-        reduced::<K>(K::target()[j], K::Symbol::one(), self.symbols[j])
+        &self.entries[..K::check_symbols()]
     }
 }

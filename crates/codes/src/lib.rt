@@ -1,6 +1,7 @@
 // Lines of shares of any kind: reading, checking and writing them.
 #![tactic(auto)]
 
+mod bits;
 pub mod bytes;
 pub mod checking;
 mod division;

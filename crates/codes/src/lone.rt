@@ -1,5 +1,5 @@
 // Lone secrets: lines with threshold 0.
-ghost use Rattle.std.specs.Prelude.{◌≡◌, ◌&&◌, length, ◌==◌};
+ghost use Rattle.std.specs.Prelude.{◌≡◌, true, false, ◌&&◌, length, ◌==◌, MatchOption};
 ghost use Rattle.codes.specs.Shown.{shown_count};
 ghost use Rattle.codes.specs.Writing.{Completion, LoneAccepted, Wrote, all_numbers, lone_answer};
 
@@ -7,11 +7,17 @@ use crate::refusals::Refusal;
 use crate::writing::{are_numbers, write_line};
 use kinds::Kind;
 
-// Whether these are the numbers of four symbols.
-fn is_identifier<K: Kind>(identifier: &[u8]) -> bool
-    ensures { result ≡ (length identifier.now == 4 && all_numbers K.Symbol.Field.ops K.Kind.code identifier.now) }
+// The same as the numbers of four symbols, if they are.
+fn as_identifier<K: Kind>(identifier: &[u8]) -> Option<&[u8; 4]>
+    ensures { MatchOption result ((length identifier.now == 4 && all_numbers K.Symbol.Field.ops K.Kind.code identifier.now) ≡ false) (λ i.
+        ((length identifier.now == 4 && all_numbers K.Symbol.Field.ops K.Kind.code identifier.now) ≡ true) × (i.now ≡ identifier.now)) }
 {
-    identifier.len() == 4 && are_numbers::<K>(identifier)
+    let four: &[u8; 4] = identifier.try_into().ok()?;
+    if are_numbers::<K>(four) {
+        Some(four)
+    } else {
+        None
+    }
 }
 
 // Writes the line of a secret that is not shared, from the numbers of the symbols, and answers its length.
@@ -24,9 +30,9 @@ pub fn write_lone<K: Kind>(
     ensures completion { Completion K.Symbol.Field.ops K.Kind.code }
     ensures accepted { LoneAccepted K.Symbol.Field.ops K.Kind.code }
 {
-    if !is_identifier::<K>(identifier) {
+    let Some(identifier) = as_identifier::<K>(identifier) else {
         return Err(Refusal::Identifier);
-    }
+    };
     if !K::allows(payload.len()) {
         return Err(Refusal::Payload);
     }

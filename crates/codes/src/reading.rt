@@ -1,11 +1,10 @@
 // Reading: from a text to its data, with the remainder of the data worked out in the same pass.
 ghost use Rattle.std.specs.Prelude.{◌≡◌, true, false, ◌||◌, ◌++◌, map, take, drop, MatchOption, MatchResult};
+ghost use Rattle.codes.specs.Division.{remainder};
 ghost use Rattle.codes.specs.Reading.{answered, refused, fits, read};
 ghost use Rattle.codes.specs.Refusals.{number_of};
 ghost use Rattle.codes.specs.Texts.{all, any, known, same_numbers, symbol};
 ghost use Rattle.kinds.specs.Characters.{capital, capital_letter, small_letter};
-ghost use Rattle.kinds.specs.Words.{numbers};
-ghost use Rattle.codes.specs.Division.{remainder};
 
 use crate::division::Register;
 use crate::refusals::Refusal;
@@ -13,10 +12,12 @@ use crate::texts::{Cases, capital, symbol};
 use kinds::Kind;
 
 // Data whose characters are all in the alphabet, and the register after the start word and the data.
-#[derive(Clone, Copy)]
-pub(crate) struct Word<'a> {
+#[derive(Drop)]
+pub(crate) struct Word<'a, K: Kind> {
     pub(crate) data: &'a [u8],
-    pub(crate) register: Register,
+    pub(crate) register: Register<K>,
+    ghost alphabet: { all (known K.Kind.code) data.now ≡ true },
+    ghost divided: { register ≡ remainder K.Symbol.Field.ops K.Kind.code.generator (K.Kind.code.start ++ map (symbol K.Symbol.Field.ops K.Kind.code) data.now) },
 }
 
 // Whether a line of this kind can have this many characters.
@@ -40,39 +41,40 @@ fn has_prefix<K: Kind>(text: &[u8]) -> bool
     capital(*a) == *x && capital(*b) == *y && capital(*c) == *z
 }
 
-#[derive(Clone, Copy)]
-struct Scan {
+#[derive(Drop)]
+struct Scan<'a, K: Kind> {
     cases: Cases,
-    register: Register,
+    word: Word<'a, K>,
 }
 
-// One pass over data: the register, and the cases added to those that were seen before; nothing where a character is not in
-// the alphabet.
-fn scanned<K: Kind>(seen: Cases, text: &[u8]) -> Option<Scan>
+// One pass over data: its word, and the cases added to those that were seen before; nothing where a character is not in the
+// alphabet.
+fn scanned<K: Kind>(seen: Cases, text: &[u8]) -> Option<Scan<'_, K>>
     ensures { MatchOption result (all (known K.Kind.code) text.now ≡ false) (λ s.
-        (all (known K.Kind.code) text.now ≡ true)
-        × (s.cases.small ≡ (seen.small || any small_letter text.now))
+        (s.cases.small ≡ (seen.small || any small_letter text.now))
         × (s.cases.capitals ≡ (seen.capitals || any capital_letter text.now))
-        × (take K.Kind.code.checks s.register.symbols ≡ numbers K.Symbol.Field.ops (remainder K.Symbol.Field.ops K.Kind.code.generator (K.Kind.code.start ++ map (symbol K.Symbol.Field.ops K.Kind.code) text.now)))) }
+        × (s.word.«data».now ≡ text.now)) }
 {
     let mut cases = seen;
-    let mut register = Register::started::<K>();
+    let mut register = Register::started();
     for c in text {
-        let Some(s) = symbol::<K>(*c) else {
-            return None;
-        };
-        register.shift::<K>(s);
+        register.shift(symbol::<K>(*c)?);
         cases = cases.and(*c);
     }
-    Some(Scan { cases, register })
+    Some(Scan {
+        cases,
+        word: Word {
+            data: text,
+            register,
+        },
+    })
 }
 
 // The data of a text, or the first refusal of its length, prefix, characters and cases.
-pub(crate) fn read<K: Kind>(text: &[u8]) -> Result<Word<'_>, Refusal>
+pub(crate) fn read<K: Kind>(text: &[u8]) -> Result<Word<'_, K>, Refusal>
     ensures { MatchResult result (λ w.
-        (read K.Symbol.Field.ops K.Kind.code text.now ≡ answered (map (symbol K.Symbol.Field.ops K.Kind.code) (drop 3 text.now)))
-        × (w.«data».now ≡ drop 3 text.now)
-        × (take K.Kind.code.checks w.register.symbols ≡ numbers K.Symbol.Field.ops (remainder K.Symbol.Field.ops K.Kind.code.generator (K.Kind.code.start ++ map (symbol K.Symbol.Field.ops K.Kind.code) (drop 3 text.now)))))
+        (read K.Symbol.Field.ops K.Kind.code text.now ≡ answered (map (symbol K.Symbol.Field.ops K.Kind.code) w.«data».now))
+        × (w.«data».now ≡ drop 3 text.now))
         (λ e. read K.Symbol.Field.ops K.Kind.code text.now ≡ refused (number_of e)) }
 {
     if !has_length::<K>(text.len()) {
@@ -91,8 +93,5 @@ pub(crate) fn read<K: Kind>(text: &[u8]) -> Result<Word<'_>, Refusal>
     if scan.cases.both() {
         return Err(Refusal::MixedCase);
     }
-    Ok(Word {
-        data,
-        register: scan.register,
-    })
+    Ok(scan.word)
 }

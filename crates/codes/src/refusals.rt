@@ -2,21 +2,33 @@
 ghost use Rattle.std.specs.Prelude.{◌≡◌};
 ghost use Rattle.codes.specs.Refusals.{number_of};
 
-use std::fmt;
+use thiserror::Error;
 
-#[derive(Clone, Copy, PartialEq, Eq, Debug)]
+#[derive(Clone, Copy, PartialEq, Eq, Debug, Error)]
 pub enum Refusal {
+    #[error("no line of this kind has this length")]
     Length = 11,
+    #[error("the line does not begin with the prefix of this kind")]
     Prefix = 12,
+    #[error("a character is not in the alphabet of this kind")]
     Character = 13,
+    #[error("small letters and capitals are mixed")]
     MixedCase = 14,
+    #[error("the checksum is wrong")]
     Checksum = 21,
+    #[error("the threshold is not 0 or 2 to 9")]
     Threshold = 31,
+    #[error("the threshold is 0, but the index is not the secret's")]
     LoneIndex = 32,
+    #[error("the identifier is not four symbols of this kind")]
     Identifier = 42,
+    #[error("no payload of this kind has this many symbols")]
     Payload = 43,
+    #[error("a symbol is not of this kind")]
     Symbol = 53,
+    #[error("the buffer is too short")]
     Buffer = 81,
+    #[error("no payload of this kind holds this many bytes")]
     Bytes = 91,
 }
 
@@ -26,26 +38,5 @@ impl Refusal {
         ensures { result ≡ number_of self }
     {
         self as u8
-    }
-}
-
-impl fmt::Display for Refusal {
-    fn fmt<W: fmt::Write>(&self, f: &mut fmt::Formatter<W>) -> fmt::Result {
-        match self {
-            Refusal::Length => f.write_str("no line of this kind has this length"),
-            Refusal::Prefix => f.write_str("the line does not begin with the prefix of this kind"),
-            Refusal::Character => f.write_str("a character is not in the alphabet of this kind"),
-            Refusal::MixedCase => f.write_str("small letters and capitals are mixed"),
-            Refusal::Checksum => f.write_str("the checksum is wrong"),
-            Refusal::Threshold => f.write_str("the threshold is not 0 or 2 to 9"),
-            Refusal::LoneIndex => f.write_str(
-                "the threshold is 0, but the index is not the secret's",
-            ),
-            Refusal::Identifier => f.write_str("the identifier is not four symbols of this kind"),
-            Refusal::Payload => f.write_str("no payload of this kind has this many symbols"),
-            Refusal::Symbol => f.write_str("a symbol is not of this kind"),
-            Refusal::Buffer => f.write_str("the buffer is too short"),
-            Refusal::Bytes => f.write_str("no payload of this kind holds this many bytes"),
-        }
     }
 }

@@ -10,11 +10,11 @@ use kinds::Kind;
 pub(crate) fn capital(c: u8) -> u8
     ensures { result ≡ capital c }
 {
-    if b'a' <= c && c <= b'z' { c - 32 } else { c }
+    c.to_ascii_uppercase()
 }
 
 // Which cases of letters have occurred.
-#[derive(Clone, Copy)]
+#[derive(Clone, Copy, Default)]
 pub(crate) struct Cases {
     small: bool,
     capitals: bool,
@@ -24,10 +24,7 @@ impl Cases {
     pub(crate) fn none() -> Cases
         ensures { (result.small ≡ false) × (result.capitals ≡ false) }
     {
-        Cases {
-            small: false,
-            capitals: false,
-        }
+        Cases::default()
     }
 
     // The same after one more character.
@@ -35,8 +32,8 @@ impl Cases {
         ensures { (result.small ≡ (self.small || small_letter c)) × (result.capitals ≡ (self.capitals || capital_letter c)) }
     {
         Cases {
-            small: self.small || (b'a' <= c && c <= b'z'),
-            capitals: self.capitals || (b'A' <= c && c <= b'Z'),
+            small: self.small || c.is_ascii_lowercase(),
+            capitals: self.capitals || c.is_ascii_uppercase(),
         }
     }
 
@@ -51,14 +48,14 @@ impl Cases {
 pub(crate) fn place_of<K: Kind>(c: u8) -> u8
     ensures { result ≡ place K.Kind.code.alphabet (capital c) }
 {
-    K::symbol_table()[c as usize]
+    K::symbol_table()[usize::from(c)]
 }
 
 // The symbol that a character stands for, in either case.
 pub(crate) fn symbol<K: Kind>(c: u8) -> Option<K::Symbol>
     ensures { SymbolOf K.Symbol.Field.ops K.Kind.code c result }
 {
-    K::Symbol::element(place_of::<K>(c) as u16)
+    K::Symbol::element(u16::from(place_of::<K>(c)))
 }
 
 // The number of the symbol that a character stands for, in either case.
@@ -66,21 +63,12 @@ pub fn symbol_number<K: Kind>(c: u8) -> Option<u8>
     ensures { result ≡ number_in K.Kind.code c }
 {
     let number = place_of::<K>(c);
-    if (number as usize) < K::alphabet().len() {
-        Some(number)
-    } else {
-        None
-    }
+    (usize::from(number) < K::alphabet().len()).then_some(number)
 }
 
 // The character of the symbol with a number.
 pub fn symbol_character<K: Kind>(number: u8) -> Option<u8>
     ensures { result ≡ character_in K.Kind.code number }
 {
-    let alphabet = K::alphabet();
-    if (number as usize) < alphabet.len() {
-        Some(alphabet[number as usize])
-    } else {
-        None
-    }
+    K::alphabet().get(usize::from(number)).copied()
 }

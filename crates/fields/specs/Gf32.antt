@@ -1,13 +1,13 @@
 -- The field of 32 elements: the five bits of a number are a polynomial in a, with a^5 = a^3 + 1, so a is 2 and a^5 is 9.
 -- The sum is the exclusive or.
 use Rattle.std.specs.Prelude.{ℕ, ◌*◌, ◌/◌, ◌%◌, List, [], ◌∷◌, bit_xor, slice_index}
-use Rattle.std.proofs.Common.{mod-lt, lit<}
+use Rattle.std.proofs.Common.{lit<}
 use Rattle.fields.specs.Field.{Operations}
-use Rattle.fields.specs.declared.gf32.Gf32.{Gf32}
+use Rattle.fields.specs.Below.{Rules, below}
+use Rattle.fields.specs.declared.below.Below.{Below}
 
--- the five low bits of n
-abbrev pub bits : ℕ → Gf32
-bits n = record { n = n % 32; bound = mod-lt n (lit< tt) }
+abbrev pub Gf32 : Type 0
+Gf32 = Below 32
 
 -- x × a: the bits move up by one, and a^5 comes back as 9
 unfoldable pub times_a : ℕ → ℕ
@@ -23,25 +23,24 @@ product x y =
     bit_xor (bit_xor (bit_xor (bit_xor (x * (y % 2)) (x₁ * (y / 2 % 2))) (x₂ * (y / 4 % 2))) (x₃ * (y / 8 % 2))) (x₄ * (y / 16))
 
 -- the inverse of each number but 0
-abbrev inverses : List ℕ
+abbrev pub inverses : List ℕ
 inverses = 0 ∷ 1 ∷ 20 ∷ 24 ∷ 10 ∷ 8 ∷ 12 ∷ 29 ∷ 5 ∷ 11 ∷ 4 ∷ 9 ∷ 6 ∷ 28 ∷ 26 ∷ 31 ∷ 22 ∷ 18 ∷ 17 ∷ 23 ∷ 2 ∷ 25 ∷ 16 ∷ 19 ∷ 3 ∷ 21 ∷ 14 ∷ 30 ∷ 13 ∷ 7 ∷ 27 ∷ 15 ∷ []
 
-abbrev pub gf32 : Operations Gf32
-gf32 = record {
-  order = 32;
-  number = λ x. x.n;
-  element = bits;
-  zero = bits 0;
-  one = bits 1;
-  plus = λ x y. bits (bit_xor x.n y.n);
-  neg = λ x. x;
-  times = λ x y. bits (product x.n y.n);
-  inv = λ x. bits (slice_index inverses x.n);
+abbrev pub gf32_rules : Rules 32
+gf32_rules = record {
+  positive = lit< tt;
+  sum = λ x y. bit_xor x.n y.n;
+  opposite = λ x. x.n;
+  product = λ x y. product x.n y.n;
+  reciprocal = λ x. slice_index inverses x.n;
 }
+
+abbrev pub gf32 : Operations Gf32
+gf32 = below gf32_rules
 
 -- the pairs over it have t × t = u × t + v, which is t × t = t + 1
 abbrev pub gf32_u : Gf32
-gf32_u = bits 1
+gf32_u = gf32.element 1
 
 abbrev pub gf32_v : Gf32
-gf32_v = bits 1
+gf32_v = gf32.element 1

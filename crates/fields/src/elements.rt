@@ -8,8 +8,5 @@ use crate::field::Field;
 pub fn numbered<F: Field>(number: u16) -> F
     ensures { result ≡ numbered F.Field.ops number }
 {
-    match F::element(number) {
-        Some(x) => x,
-        None => F::zero(),
-    }
+    F::element(number).unwrap_or(F::zero())
 }

@@ -1,6 +1,8 @@
 // Finite fields of at most 1,024 elements, with their laws proved.
 #![tactic(auto)]
 
+pub mod arithmetic;
+pub mod below;
 pub mod elements;
 pub mod field;
 pub mod gf11;

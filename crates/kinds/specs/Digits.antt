@@ -1,8 +1,7 @@
 -- The code over the digits and X, for 4 to 40 payload symbols.
 use Rattle.std.specs.Prelude.{◌&&◌, [], ◌∷◌, map, replicate, codes, nat_le}
 use Rattle.fields.specs.Extensions.{gf121}
-use Rattle.fields.specs.Gf11.{gf11}
-use Rattle.fields.specs.declared.gf11.Gf11.{Gf11}
+use Rattle.fields.specs.Gf11.{Gf11, gf11}
 use Rattle.fields.specs.declared.pair.Pair.{Pair}
 use Rattle.kinds.specs.Code.{Code}
 use Rattle.kinds.specs.Embedding.{embedded}

@@ -1,8 +1,7 @@
 -- The two codes over the letters: a short one for 26 to 74 payload symbols, and a long one for 76 to 103.
 use Rattle.std.specs.Prelude.{ℕ, ◌%◌, Bool, not, ◌&&◌, List, [], ◌∷◌, map, codes, ◌==◌, nat_le}
 use Rattle.fields.specs.Extensions.{gf1024}
-use Rattle.fields.specs.Gf32.{gf32}
-use Rattle.fields.specs.declared.gf32.Gf32.{Gf32}
+use Rattle.fields.specs.Gf32.{Gf32, gf32}
 use Rattle.fields.specs.declared.pair.Pair.{Pair}
 use Rattle.kinds.specs.Code.{Code}
 use Rattle.kinds.specs.Embedding.{embedded}
@@ -20,39 +19,72 @@ spelled text = map (λ c. gf32.element (place letters c)) text
 abbrev pub whole : ℕ → Bool
 whole n = not (n % 8 == 1) && (not (n % 8 == 3) && not (n % 8 == 6))
 
-abbrev pub short_letters : Code Gf32 (Pair Gf32)
-short_letters = record {
+-- what the two codes differ in
+pub record Parts : Type 0 where
+  pub generator : List Gf32
+  pub target : List Gf32
+  pub checks : ℕ
+  pub base : Pair Gf32
+  pub first : ℕ
+  -- the fewest and the most symbols of a payload, and bytes that one may hold
+  pub shortest : ℕ
+  pub longest : ℕ
+  pub fewest_bytes : ℕ
+  pub most_bytes : ℕ
+
+abbrev pub letters_code : Parts → Code Gf32 (Pair Gf32)
+letters_code parts = record {
   prefix = codes "MS1";
   alphabet = letters;
   secret = gf32.element 16;
   start = map gf32.element (1 ∷ 3 ∷ 3 ∷ 0 ∷ 13 ∷ 19 ∷ []);
+  generator = parts.generator;
+  target = parts.target;
+  checks = parts.checks;
+  embed = embedded gf32;
+  base = parts.base;
+  first = parts.first;
+  allows = λ n. nat_le parts.shortest n && (nat_le n parts.longest && whole n);
+}
+
+-- the counts of bytes that a code takes
+abbrev pub letters_bytes : Parts → ℕ → Bool
+letters_bytes parts m = nat_le parts.fewest_bytes m && nat_le m parts.most_bytes
+
+abbrev pub short_parts : Parts
+short_parts = record {
   generator = map gf32.element (25 ∷ 27 ∷ 17 ∷ 8 ∷ 0 ∷ 25 ∷ 25 ∷ 25 ∷ 31 ∷ 27 ∷ 24 ∷ 16 ∷ 16 ∷ []);
   target = spelled (codes "SECRETSHARE32");
   checks = 13;
-  embed = embedded gf32;
   base = gf1024.element 256;
   first = 77;
-  allows = λ n. nat_le 26 n && (nat_le n 74 && whole n);
+  shortest = 26;
+  longest = 74;
+  fewest_bytes = 16;
+  most_bytes = 46;
 }
 
-abbrev pub long_letters : Code Gf32 (Pair Gf32)
-long_letters = record {
-  prefix = codes "MS1";
-  alphabet = letters;
-  secret = gf32.element 16;
-  start = map gf32.element (1 ∷ 3 ∷ 3 ∷ 0 ∷ 13 ∷ 19 ∷ []);
+abbrev pub long_parts : Parts
+long_parts = record {
   generator = map gf32.element (15 ∷ 10 ∷ 25 ∷ 26 ∷ 9 ∷ 25 ∷ 21 ∷ 6 ∷ 23 ∷ 21 ∷ 6 ∷ 5 ∷ 22 ∷ 4 ∷ 23 ∷ []);
   target = spelled (codes "SECRETSHARE32EX");
   checks = 15;
-  embed = embedded gf32;
   base = gf1024.element 217;
   first = 1019;
-  allows = λ n. nat_le 76 n && (nat_le n 103 && whole n);
+  shortest = 76;
+  longest = 103;
+  fewest_bytes = 47;
+  most_bytes = 64;
 }
 
--- the counts of bytes that each takes
+abbrev pub short_letters : Code Gf32 (Pair Gf32)
+short_letters = letters_code short_parts
+
+abbrev pub long_letters : Code Gf32 (Pair Gf32)
+long_letters = letters_code long_parts
+
 abbrev pub short_bytes : ℕ → Bool
-short_bytes m = nat_le 16 m && nat_le m 46
+short_bytes = letters_bytes short_parts
 
 abbrev pub long_bytes : ℕ → Bool
-long_bytes m = nat_le 47 m && nat_le m 64
+long_bytes = letters_bytes long_parts

@@ -11,6 +11,5 @@ pub mod Bytes
 pub mod Three
 pub mod Subfield
 pub mod Lawful
-pub mod Tests
 pub mod Powers
 pub mod Wholes

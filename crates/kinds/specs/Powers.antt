@@ -1,10 +1,10 @@
 -- Powers of one element of a field, and rules for many of them by one test that antt computes.
-use Rattle.std.specs.Prelude.{◌≡◌, ℕ, zero, suc, ◌+◌, ◌-◌, ◌<◌, ◌≤◌, Bool, true, ◌&&◌, T, ◌≢◌}
-use Rattle.std.proofs.Common.{◌∙◌, sym, ap, subst, not-suc-le-zero, le_of_suc-le-suc, zero-add, suc-add, arith}
+use Rattle.std.specs.Prelude.{◌≡◌, ℕ, zero, suc, ◌+◌, ◌-◌, ◌<◌, ◌≤◌, Bool, true, ◌&&◌, ◌≢◌}
+use Rattle.std.proofs.Common.{◌∙◌, sym, ap, not-suc-le-zero, le_of_suc-le-suc, zero-add, suc-add, arith}
 use Rattle.std.proofs.Math.Decide.{dec_le}
+use Rattle.std.proofs.lemmas.Bool.{and_parts}
 use Rattle.fields.specs.Field.{Operations, FieldLaws, power}
 use Rattle.fields.specs.Ring.{one_times, times_left_comm, times_cancel, times_nonzero}
-use Rattle.kinds.specs.Tests.{left, right}
 
 -- the test passes at y, b × y, b × b × y and so on, n elements in all
 abbrev pub steps : {C : Type 0} → Operations C → (C → Bool) → C → ℕ → C → Bool
@@ -24,12 +24,12 @@ module _ {C : Type 0} (G : Operations C) (laws : FieldLaws G) where
   power_nonzero x nonzero (suc n) = times_nonzero G laws x (power G x n) nonzero (power_nonzero x nonzero n)
 
   -- what `steps` says of the element at place i
-  pub step : (test : C → Bool) (b : C) (n : ℕ) (y : C) → T (steps G test b n y) → (i : ℕ) → i < n → T (test (power G b i ⊗ y))
+  pub step : (test : C → Bool) (b : C) (n : ℕ) (y : C) → steps G test b n y ≡ true → (i : ℕ) → i < n → test (power G b i ⊗ y) ≡ true
   step test b zero y t i h = absurd (not-suc-le-zero h)
-  step test b (suc n) y t zero h = subst (λ z. T (test z)) (sym (one_times G laws y)) (left (test y) _ t)
+  step test b (suc n) y t zero h = ap test (one_times G laws y) ∙ (and_parts (test y) _ t).0
   step test b (suc n) y t (suc i) h =
-      subst (λ z. T (test z)) (times_left_comm G laws (power G b i) b y ∙ sym (laws.times_assoc b (power G b i) y))
-      (step test b n (b ⊗ y) (right (test y) _ t) i (le_of_suc-le-suc h))
+      ap test (laws.times_assoc b (power G b i) y ∙ times_left_comm G laws b (power G b i) y)
+      ∙ step test b n (b ⊗ y) (and_parts (test y) _ t).1 i (le_of_suc-le-suc h)
 
   -- Powers below n are different, where none of them but the first is one.
 

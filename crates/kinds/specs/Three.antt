@@ -1,6 +1,7 @@
 -- The three codes keep the laws.
-use Rattle.std.specs.Prelude.{nat_le, refl}
-use Rattle.std.proofs.Common.{leb→le}
+use Rattle.std.specs.Prelude.{◌≡◌, ℕ, ◌≤◌, true, nat_le, refl}
+use Rattle.std.proofs.Common.{lit≤}
+use Rattle.std.proofs.lemmas.Bool.{and_parts, leb-true}
 use Rattle.fields.specs.Gf11.{gf11, gf11_u, gf11_v}
 use Rattle.fields.specs.Gf32.{gf32, gf32_u, gf32_v, product, times_a}
 use Rattle.fields.specs.Extensions.{gf121, gf1024}
@@ -9,29 +10,52 @@ use Rattle.fields.specs.Polynomials.{gf32_laws}
 use Rattle.fields.specs.Residues.{gf11_laws}
 use Rattle.kinds.specs.Code.{Lawful}
 use Rattle.kinds.specs.Digits.{digits}
-use Rattle.kinds.specs.Letters.{short_letters, long_letters}
+use Rattle.kinds.specs.Letters.{Parts, letters_code, short_letters, short_parts, long_letters, long_parts, whole}
 use Rattle.kinds.specs.Subfield.{embeds}
-use Rattle.kinds.specs.Lawful.{Tested, lawful, tested_by}
-use Rattle.kinds.specs.Tests.{passed, left, right}
+use Rattle.kinds.specs.Lawful.{SumTested, TextTested, lawful, within}
 
-short_tested : Tested gf32 gf1024 short_letters 74
-unfolding times_a product
-short_tested =
-    tested_by gf32 gf1024 short_letters 74 (tt, refl, tt, refl, tt, tt, tt, tt, refl, refl, tt, tt, tt, tt) (λ n e. leb→le n 74 (left (nat_le n 74) _ (right (nat_le 26 n) _ (passed _ e))))
+-- the codes over the letters
 
-long_tested : Tested gf32 gf1024 long_letters 103
-unfolding times_a product
-long_tested =
-    tested_by gf32 gf1024 long_letters 103 (tt, refl, tt, refl, tt, tt, tt, tt, refl, refl, tt, tt, tt, tt) (λ n e. leb→le n 103 (left (nat_le n 103) _ (right (nat_le 76 n) _ (passed _ e))))
+letters_text : (parts : Parts) → TextTested gf32 (letters_code parts)
+letters_text parts = record {
+  few_symbols = lit≤ tt;
+  prefix_length = refl;
+  prefix_plain = refl;
+  alphabet_length = refl;
+  alphabet_plain = refl;
+  alphabet_apart = refl;
+  thresholds = refl;
+}
 
-digits_tested : Tested gf11 gf121 digits 40
-digits_tested = tested_by gf11 gf121 digits 40 (tt, refl, tt, refl, tt, tt, tt, tt, refl, refl, tt, tt, tt, tt) (λ n e. leb→le n 40 (right (nat_le 4 n) _ (passed _ e)))
+letters_longest : (parts : Parts) (n : ℕ) → (letters_code parts).allows n ≡ true → n ≤ parts.longest
+letters_longest parts n e = leb-true _ _ (and_parts (nat_le n parts.longest) (whole n) (and_parts (nat_le parts.shortest n) _ e).1).0
+
+letters_lawful : (parts : Parts) → SumTested gf32 gf1024 (letters_code parts) parts.longest → Lawful gf32 gf1024 (letters_code parts)
+letters_lawful parts =
+    lawful gf32 gf1024 (letters_code parts) parts.longest gf32_laws gf1024_laws (embeds gf32 gf32_laws gf32_u gf32_v) (letters_longest parts) (letters_text parts)
 
 pub short_lawful : Lawful gf32 gf1024 short_letters
-short_lawful = lawful gf32 gf1024 short_letters gf32_laws gf1024_laws (embeds gf32 gf32_laws gf32_u gf32_v) 74 short_tested
+unfolding times_a product
+short_lawful = letters_lawful short_parts (record { few_checks = lit≤ tt; generator_length = refl; target_length = refl; roots = refl; base_nonzero = refl; no_one = refl; short = lit≤ tt })
 
 pub long_lawful : Lawful gf32 gf1024 long_letters
-long_lawful = lawful gf32 gf1024 long_letters gf32_laws gf1024_laws (embeds gf32 gf32_laws gf32_u gf32_v) 103 long_tested
+unfolding times_a product
+long_lawful = letters_lawful long_parts (record { few_checks = lit≤ tt; generator_length = refl; target_length = refl; roots = refl; base_nonzero = refl; no_one = refl; short = lit≤ tt })
+
+-- the digits
+
+digits_text : TextTested gf11 digits
+digits_text = record {
+  few_symbols = lit≤ tt;
+  prefix_length = refl;
+  prefix_plain = refl;
+  alphabet_length = refl;
+  alphabet_plain = refl;
+  alphabet_apart = refl;
+  thresholds = refl;
+}
 
 pub digits_lawful : Lawful gf11 gf121 digits
-digits_lawful = lawful gf11 gf121 digits gf11_laws gf121_laws (embeds gf11 gf11_laws gf11_u gf11_v) 40 digits_tested
+digits_lawful =
+    lawful gf11 gf121 digits 40 gf11_laws gf121_laws (embeds gf11 gf11_laws gf11_u gf11_v) (λ n e. (within 4 40 n e).1) digits_text
+    (record { few_checks = lit≤ tt; generator_length = refl; target_length = refl; roots = refl; base_nonzero = refl; no_one = refl; short = lit≤ tt })

@@ -1,30 +1,34 @@
 -- The counts of bytes that the letters take give allowed counts of symbols: one test of all counts up to 64.
-use Rattle.std.specs.Prelude.{◌≡◌, ℕ, ◌≤◌, Bool, true, false, not, ◌||◌, T, nat_le, refl}
-use Rattle.std.proofs.Common.{⊎_elim, arith, T_not}
-use Rattle.std.proofs.lemmas.Bool.{and_parts, leb-true}
+use Rattle.std.specs.Prelude.{◌≡◌, ℕ, ◌≤◌, Bool, true, not, ◌||◌, refl}
+use Rattle.std.proofs.Common.{arith, inl, inr, le_trans, lit≤}
+use Rattle.std.proofs.lemmas.Bool.{both_ways, not-true, or_cases}
 use Rattle.fields.specs.Gf32.{gf32}
-use Rattle.fields.specs.Below.{Each, at}
+use Rattle.fields.specs.Each.{Each, at}
 use Rattle.kinds.specs.Bytes.{Bytes, symbols_for}
-use Rattle.kinds.specs.Letters.{long_bytes, long_letters, short_bytes, short_letters}
-use Rattle.kinds.specs.Tests.{either, passed}
+use Rattle.kinds.specs.Lawful.{within}
+use Rattle.kinds.specs.Letters.{Parts, letters_bytes, letters_code, long_bytes, long_letters, long_parts, short_bytes, short_letters, short_parts}
 
-holds : (b : Bool) → T b → b ≡ true
-holds true t = refl
-holds false t = absurd t
+-- where a code takes m bytes, it allows as many symbols as hold them
+abbrev fits : Parts → ℕ → Bool
+fits parts m = not (letters_bytes parts m) || (letters_code parts).allows (symbols_for m)
 
-tested : (takes allows : ℕ → Bool) → Each 65 (λ m. not (takes m) || allows (symbols_for m)) → ((m : ℕ) → takes m ≡ true → m ≤ 64) → (m : ℕ) → takes m ≡ true → allows (symbols_for m) ≡ true
-tested takes allows t few m e =
-    let small : m ≤ 64 = few m e in
-    ⊎_elim (λ n. absurd (T_not _ n (passed (takes m) e))) (holds (allows (symbols_for m))) (either (not (takes m)) _ (at 65 (λ k. not (takes k) || allows (symbols_for k)) t m (omega arith)))
+module _ (parts : Parts) (few : parts.most_bytes ≤ 64) (test : Each 65 (fits parts)) where
+  few_bytes : (m : ℕ) → letters_bytes parts m ≡ true → m ≤ 64
+  few_bytes m e = le_trans (within parts.fewest_bytes parts.most_bytes m e).1 few
 
-short_few : (m : ℕ) → short_bytes m ≡ true → m ≤ 64
-short_few m e = let low : m ≤ 46 = leb-true m 46 (and_parts (nat_le 16 m) (nat_le m 46) e).1 in omega arith
+  fitting : (m : ℕ) → letters_bytes parts m ≡ true → (letters_code parts).allows (symbols_for m) ≡ true
+  fitting m e =
+      let small : m ≤ 64 = few_bytes m e in
+      elim (or_cases (not (letters_bytes parts m)) _ (at 65 (fits parts) test m (omega arith))) [
+        | inl refused ↦ absurd (both_ways _ (not-true _ refused) e)
+        | inr allowed ↦ allowed
+      ]
 
-long_few : (m : ℕ) → long_bytes m ≡ true → m ≤ 64
-long_few m e = leb-true m 64 (and_parts (nat_le 47 m) (nat_le m 64) e).1
+  letters_whole : Bytes gf32 (letters_code parts) (letters_bytes parts)
+  letters_whole = record { five_bits = refl; few_bytes = few_bytes; fitting = fitting }
 
 pub short_whole : Bytes gf32 short_letters short_bytes
-short_whole = record { five_bits = refl; few_bytes = short_few; fitting = tested short_bytes short_letters.allows tt short_few }
+short_whole = letters_whole short_parts (lit≤ tt) refl
 
 pub long_whole : Bytes gf32 long_letters long_bytes
-long_whole = record { five_bits = refl; few_bytes = long_few; fitting = tested long_bytes long_letters.allows tt long_few }
+long_whole = letters_whole long_parts (lit≤ tt) refl

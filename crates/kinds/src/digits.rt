@@ -14,12 +14,6 @@ impl Kind for Digits {
 
     type Correction = Pair<Gf11>;
 
-    const CHECK_COUNT: usize = 14;
-
-    const FIRST_EXPONENT: usize = 6;
-
-    const SECRET_INDEX: u8 = 0;
-
     ghost code = { digits };
 
     ghost lawful = { digits_lawful };
@@ -37,7 +31,7 @@ impl Kind for Digits {
     }
 
     fn secret_number() -> u8 {
-        Self::SECRET_INDEX
+        0
     }
 
     fn start<'a>() -> &'a [u8] {
@@ -53,7 +47,7 @@ impl Kind for Digits {
     }
 
     fn check_symbols() -> usize {
-        Self::CHECK_COUNT
+        14
     }
 
     fn embed(symbol: Gf11) -> Pair<Gf11> {
@@ -65,11 +59,11 @@ impl Kind for Digits {
     }
 
     fn first_power() -> usize {
-        Self::FIRST_EXPONENT
+        6
     }
 
     fn allows(n: usize) -> bool {
-        4 <= n && n <= 40
+        (4..=40).contains(&n)
     }
 }
 

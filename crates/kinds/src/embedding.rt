@@ -4,6 +4,7 @@ ghost use Rattle.kinds.specs.Embedding.{embedded};
 
 use fields::{Field, Pair};
 
+// No `From`, which would have to stand beside `Pair` in `fields`, apart from the laws of this map.
 pub fn embedded<F: Field>(symbol: F) -> Pair<F>
     ensures { result ≡ embedded F.Field.ops symbol }
 {

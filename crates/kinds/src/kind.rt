@@ -12,12 +12,6 @@ pub trait Kind {
 
     type Correction: Field;
 
-    const CHECK_COUNT: usize;
-
-    const FIRST_EXPONENT: usize;
-
-    const SECRET_INDEX: u8;
-
     ghost code: { Code Self.Symbol Self.Correction };
 
     // The three characters in front.

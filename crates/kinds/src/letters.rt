@@ -1,22 +1,97 @@
-// What the two kinds over the 32 letters and digits share.
+// The kinds over the 32 letters and digits, by the parts of their codes.
 ghost use Rattle.std.specs.Prelude.{◌≡◌};
-ghost use Rattle.kinds.specs.Letters.{whole};
+ghost use Rattle.kinds.specs.Letters.{letters_bytes, letters_code, whole};
 
-pub(crate) const PREFIX: &[u8; 3] = b"MS1";
+use crate::bytes::ByteKind;
+use crate::embedding::embedded;
+use crate::kind::Kind;
+use crate::parts::LetterCode;
+use fields::{Gf32, Pair};
+use std::marker::PhantomData;
 
-pub(crate) const ALPHABET: &[u8; 32] = b"QPZRY9X8GF2TVDW0S3JN54KHCE6MUA7L";
+pub struct Letters<C> {
+    of: PhantomData<C>,
+}
 
-pub(crate) const START: &[u8; 6] = &[1, 3, 3, 0, 13, 19];
+impl<C: LetterCode> Kind for Letters<C> {
+    type Symbol = Gf32;
+
+    type Correction = Pair<Gf32>;
+
+    ghost code = { letters_code C.parts };
+
+    ghost lawful = { C.lawful };
+
+    fn prefix<'a>() -> &'a [u8] {
+        b"MS1"
+    }
+
+    fn alphabet<'a>() -> &'a [u8] {
+        b"QPZRY9X8GF2TVDW0S3JN54KHCE6MUA7L"
+    }
+
+    fn symbol_table<'a>() -> &'a [u8] {
+        &SYMBOLS
+    }
+
+    fn secret_number() -> u8 {
+        16
+    }
+
+    fn start<'a>() -> &'a [u8] {
+        &[1, 3, 3, 0, 13, 19]
+    }
+
+    fn generator<'a>() -> &'a [u8] {
+        C::parts().generator
+    }
+
+    fn target<'a>() -> &'a [u8] {
+        C::parts().target
+    }
+
+    fn check_symbols() -> usize {
+        C::parts().generator.len()
+    }
+
+    fn embed(symbol: Gf32) -> Pair<Gf32> {
+        embedded(symbol)
+    }
+
+    fn base() -> Pair<Gf32> {
+        C::parts().base
+    }
+
+    fn first_power() -> usize {
+        C::parts().first_power
+    }
+
+    fn allows(n: usize) -> bool {
+        let parts = C::parts();
+        (parts.shortest..=parts.longest).contains(&n) && is_whole(n)
+    }
+}
+
+impl<C: LetterCode> ByteKind for Letters<C> {
+    ghost takes = { letters_bytes C.parts };
+
+    ghost whole = { C.whole };
+
+    fn takes_bytes(m: usize) -> bool {
+        let parts = C::parts();
+        (parts.fewest_bytes..=parts.most_bytes).contains(&m)
+    }
+}
 
 // Whether a payload of n symbols can come from whole bytes.
-pub(crate) fn is_whole(n: usize) -> bool
+fn is_whole(n: usize) -> bool
     ensures { result ≡ whole n }
 {
-    n % 8 != 1 && n % 8 != 3 && n % 8 != 6
+    !matches!(n % 8, 1 | 3 | 6)
 }
 
 // The place of each byte in the alphabet, small letters as capitals; 32 for a byte that has none.
-pub(crate) const SYMBOLS: [u8; 256] = *b"\
+const SYMBOLS: [u8; 256] = *b"\
     \x20\x20\x20\x20\x20\x20\x20\x20\x20\x20\x20\x20\x20\x20\x20\x20\x20\x20\x20\x20\x20\x20\x20\x20\x20\x20\x20\x20\x20\x20\x20\x20\
     \x20\x20\x20\x20\x20\x20\x20\x20\x20\x20\x20\x20\x20\x20\x20\x20\x0f\x20\x0a\x11\x15\x14\x1a\x1e\x07\x05\x20\x20\x20\x20\x20\x20\
     \x20\x1d\x20\x18\x0d\x19\x09\x08\x17\x20\x12\x16\x1f\x1b\x13\x20\x01\x00\x03\x10\x0b\x1c\x0c\x0e\x06\x04\x02\x20\x20\x20\x20\x20\

@@ -6,8 +6,9 @@ pub mod digits;
 pub mod embedding;
 pub mod kind;
 pub mod known;
-mod letters;
+pub mod letters;
 pub mod long;
+pub mod parts;
 pub mod short;
 
 pub use crate::bytes::ByteKind;

@@ -6,24 +6,16 @@ use Rattle.std.specs.declared.alloc.Global.{Global}
 use Rattle.codes.specs.Reading.{Answer, answered, refused}
 use Rattle.codes.specs.Writing.{Wrote}
 
-abbrev value : Answer ℕ → ℕ
-value (answered n) = n
-value (refused n) = n
-
-abbrev Answered : Answer ℕ → Type 0
-Answered (answered n) = Unit {0}
-Answered (refused n) = ⊥
-
 pub answered_front : (a : Answer (List ℕ)) (before after : List ℕ) (n : ℕ) → Wrote a before (answered n) after → answered (take n after) ≡ a
 answered_front (answered l) before after n w =
-    let long : length l ≡ n = sym (ap value w.answer) in
+    let long : length l ≡ n = cc w.answer in
     ap answered (ap (take n) w.buffer ∙ take_at l (drop (length l) before) n long)
-answered_front (refused m) before after n w = absurd (subst Answered w.answer tt)
+answered_front (refused m) before after n w = cc w.answer
 
 pub refused_front : (a : Answer (List ℕ)) (before after : List ℕ) (n : ℕ) → Wrote a before (refused n) after → refused n ≡ a
-refused_front (answered l) before after n w = absurd (subst Answered (sym w.answer) tt)
-refused_front (refused m) before after n w = ap refused (ap value w.answer)
+refused_front (answered l) before after n w = cc w.answer
+refused_front (refused m) before after n w = let same : n ≡ m = cc w.answer in ap refused same
 
--- the same where the buffer is a Vec that was lent
+-- a Vec that was lent as such a buffer
 pub wrote_lent : {a : Answer (List ℕ)} {before : List ℕ} {r : Answer ℕ} (v : Vec ℕ Global) (after : List ℕ) → length after ≡ vec_len v → Wrote a before r after → Wrote a before r (vec_items (with_items v after))
 wrote_lent {a} {before} {r} v after long w = subst (Wrote a before r) (sym (with_items_is v after long)) w

@@ -1,3 +1,4 @@
 pub mod Fronts
-pub mod Numerals
+pub mod Pairs
 pub mod Splitting
+pub mod Spelling

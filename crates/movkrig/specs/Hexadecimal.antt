@@ -1,8 +1,7 @@
 -- Bytes in hexadecimal.
 use Rattle.std.specs.Prelude.{ℕ, ◌+◌, ◌-◌, ◌*◌, ◌/◌, ◌%◌, Bool, cond, ◌&&◌, List, map, length, is_some, Some, None, Option, ◌==◌, nat_le, slice_index}
-use Rattle.std.specs.List.{range_with_len}
+use Rattle.std.specs.List.{list_all, range_with_len}
 use Rattle.std.specs.Option.{unwrap_or}
-use Rattle.codes.specs.Texts.{all}
 
 -- the number of a digit: 0 to 9, a to f, A to F
 abbrev pub hex_digit : ℕ → Option ℕ
@@ -16,7 +15,7 @@ hex_value c = unwrap_or (hex_digit c) 0
 
 -- pairs of digits
 abbrev pub is_hexadecimal : List ℕ → Bool
-is_hexadecimal w = length w % 2 == 0 && all (λ c. is_some (hex_digit c)) w
+is_hexadecimal w = length w % 2 == 0 && list_all (λ c. is_some (hex_digit c)) w
 
 -- the i-th byte
 abbrev pub hex_byte : List ℕ → ℕ → ℕ

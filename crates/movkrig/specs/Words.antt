@@ -1,16 +1,10 @@
 -- The words of a line.
-use Rattle.std.specs.Prelude.{◌≡◌, ℕ, ◌<◌, ◌≤◌, Bool, true, cond, not, ◌||◌, List, [], ◌∷◌, length, ◌==◌, slice_index}
+use Rattle.std.specs.Prelude.{ℕ, Bool, true, cond, ◌||◌, List, [], ◌∷◌, ◌==◌}
 use Rattle.movkrig.specs.declared.words.Words.{Words}
 
 -- a space or a tab
 abbrev pub blank : ℕ → Bool
 blank b = b == 32 || b == 9
-
--- the first n bytes, and no more, are blank, or are not
-pub record Run (blanks : Bool) (n : ℕ) (line : List ℕ) : Type 0 where
-  pub within : n ≤ length line
-  pub alike : (k : ℕ) → k < n → blank (slice_index line k) ≡ blanks
-  pub stops : n < length line → blank (slice_index line n) ≡ not blanks
 
 -- nothing of a word stands at the front
 abbrev pub apart : List ℕ → Bool

@@ -1,8 +1,7 @@
 // Answers, and how each is written on its line.
-use crate::errors::CommandError;
 use crate::hexadecimal::Hexadecimal;
 use crate::printable::Printable;
-use codes::{Line, Refusal};
+use codes::Line;
 use std::fmt;
 
 #[derive(Drop)]
@@ -13,8 +12,6 @@ pub enum Answer<'a> {
     Written(Vec<u8>),
     Payload(Vec<u8>),
     Bytes(Vec<u8>),
-    Refused(Refusal),
-    Error(CommandError<'a>),
 }
 
 impl fmt::Display for Answer<'_> {
@@ -33,11 +30,6 @@ impl fmt::Display for Answer<'_> {
                 let bytes = Hexadecimal(bytes.as_slice());
                 write!(f, "bytes {bytes}")
             }
-            Answer::Refused(refusal) => {
-                let number = refusal.number();
-                write!(f, "refused {number}: {refusal}")
-            }
-            Answer::Error(error) => write!(f, "error: {error}"),
         }
     }
 }

@@ -2,7 +2,7 @@
 ghost use Rattle.std.specs.Prelude.{◌≡◌, []};
 ghost use Rattle.movkrig.specs.Commands.{take_check, take_lone, take_encode, take_decode, take_order, order_of};
 ghost use Rattle.movkrig.specs.Shown.{ahead, shown_order, Reads, shown_reading};
-ghost use Rattle.movkrig.specs.Words.{left_words, line_words};
+ghost use Rattle.movkrig.specs.Words.{line_words};
 
 use crate::errors::CommandError;
 use crate::names::{ByteKindName, CommandName, KindName};
@@ -11,27 +11,35 @@ use crate::words::Words;
 
 #[derive(Clone, Copy)]
 pub enum Command<'a> {
-    Check {
+    // What every kind can do.
+    OfLines {
         kind: KindName,
+        task: LineTask<'a>,
+    },
+    // What kinds can do whose payloads hold bytes.
+    OfBytes {
+        kind: ByteKindName,
+        task: ByteTask<'a>,
+    },
+}
+
+#[derive(Clone, Copy)]
+pub enum LineTask<'a> {
+    Check {
         text: &'a [u8],
     },
     Lone {
-        kind: KindName,
         identifier: &'a [u8],
         payload: &'a [u8],
         length: usize,
     },
+}
+
+#[derive(Clone, Copy)]
+pub enum ByteTask<'a> {
     // The bytes in hexadecimal.
-    Encode {
-        kind: ByteKindName,
-        bytes: &'a [u8],
-        length: usize,
-    },
-    Decode {
-        kind: ByteKindName,
-        payload: &'a [u8],
-        length: usize,
-    },
+    Encode { bytes: &'a [u8], length: usize },
+    Decode { payload: &'a [u8], length: usize },
 }
 
 impl<'a> Command<'a> {
@@ -42,19 +50,18 @@ impl<'a> Command<'a> {
         let mut words = Words::of(line);
         match words.next() {
             None | Some([b'#', ..]) => Ok(None),
-            Some(word) => match CommandName::read(word) {
-                None => Err(CommandError::UnknownCommand { word }),
-                Some(name) => Ok(Some(Command::named(name, words)?)),
-            },
+            Some(word) => {
+                let command = CommandName::try_from(word)?;
+                Ok(Some(Command::named(Operands { command, words })?))
+            }
         }
     }
 
     // The command with this name and the words behind it.
-    fn named(name: CommandName, words: Words<'a>) -> Result<Command<'a>, CommandError<'a>>
-        ensures { Reads shown_order result [] (take_order name (left_words words.entry)) }
+    fn named(operands: Operands<'a>) -> Result<Command<'a>, CommandError<'a>>
+        ensures { Reads shown_order result [] (take_order operands.entry.command (ahead operands.entry)) }
     {
-        let operands = Operands::new(name, words);
-        match name {
+        match operands.command {
             CommandName::Check => Command::check(operands),
             CommandName::Lone => Command::lone(operands),
             CommandName::Encode => Command::encode(operands),
@@ -62,13 +69,16 @@ impl<'a> Command<'a> {
         }
     }
 
+    // These four read much alike, yet no two read the same words: each is its own line of the grammar, and one function
+    // for two would need a switch for each word that differs.
     fn check(mut operands: Operands<'a>) -> Result<Command<'a>, CommandError<'a>>
         ensures { Reads shown_order result [] (take_check operands.entry.command (ahead operands.entry)) }
     {
         let kind = operands.kind()?;
         let text = operands.word()?;
         operands.end()?;
-        Ok(Command::Check { kind, text })
+        let task = LineTask::Check { text };
+        Ok(Command::OfLines { kind, task })
     }
 
     fn lone(mut operands: Operands<'a>) -> Result<Command<'a>, CommandError<'a>>
@@ -79,12 +89,12 @@ impl<'a> Command<'a> {
         let payload = operands.symbols()?;
         let length = operands.length()?;
         operands.end()?;
-        Ok(Command::Lone {
-            kind,
+        let task = LineTask::Lone {
             identifier,
             payload,
             length,
-        })
+        };
+        Ok(Command::OfLines { kind, task })
     }
 
     fn encode(mut operands: Operands<'a>) -> Result<Command<'a>, CommandError<'a>>
@@ -94,11 +104,8 @@ impl<'a> Command<'a> {
         let bytes = operands.hexadecimal()?;
         let length = operands.length()?;
         operands.end()?;
-        Ok(Command::Encode {
-            kind,
-            bytes,
-            length,
-        })
+        let task = ByteTask::Encode { bytes, length };
+        Ok(Command::OfBytes { kind, task })
     }
 
     fn decode(mut operands: Operands<'a>) -> Result<Command<'a>, CommandError<'a>>
@@ -108,10 +115,7 @@ impl<'a> Command<'a> {
         let payload = operands.symbols()?;
         let length = operands.length()?;
         operands.end()?;
-        Ok(Command::Decode {
-            kind,
-            payload,
-            length,
-        })
+        let task = ByteTask::Decode { payload, length };
+        Ok(Command::OfBytes { kind, task })
     }
 }

@@ -1,10 +1,64 @@
-// What the program itself cannot make sense of.
+// Why a command has no result.
+ghost use Rattle.std.specs.Prelude.{◌≡◌};
+ghost use Rattle.movkrig.specs.declared.errors.Failure.TheVariants as failure;
+
 use crate::lengths::MOST_LENGTH;
 use crate::names::{ByteKindName, CommandName, KindName};
 use crate::printable::Printable;
+use codes::Refusal;
+use std::alloc::AllocError;
+use std::error::Error;
 use std::fmt;
 
-#[derive(Clone, Copy)]
+#[derive(Clone, Copy, Debug)]
+pub enum Failure<'a> {
+    // The program itself cannot make sense of the line.
+    Command(CommandError<'a>),
+    // The library refuses what the line asks for.
+    Refused(Refusal),
+    OutOfMemory(AllocError),
+}
+
+impl<'a> From<CommandError<'a>> for Failure<'a> {
+    ghost from_gives = { λ e f. f ≡ failure.Command e };
+
+    fn from(error: CommandError<'a>) -> Failure<'a> {
+        Failure::Command(error)
+    }
+}
+
+impl From<Refusal> for Failure<'_> {
+    ghost from_gives = { λ e f. f ≡ failure.Refused e };
+
+    fn from(error: Refusal) -> Self {
+        Failure::Refused(error)
+    }
+}
+
+impl From<AllocError> for Failure<'_> {
+    ghost from_gives = { λ e f. f ≡ failure.OutOfMemory e };
+
+    fn from(error: AllocError) -> Self {
+        Failure::OutOfMemory(error)
+    }
+}
+
+impl fmt::Display for Failure<'_> {
+    fn fmt<W: fmt::Write>(&self, f: &mut fmt::Formatter<W>) -> fmt::Result {
+        match self {
+            Failure::Command(error) => write!(f, "error: {error}"),
+            Failure::Refused(refusal) => {
+                let number = refusal.number();
+                write!(f, "refused {number}: {refusal}")
+            }
+            Failure::OutOfMemory(error) => write!(f, "{error}"),
+        }
+    }
+}
+
+impl Error for Failure<'_> {}
+
+#[derive(Clone, Copy, Debug)]
 pub enum CommandError<'a> {
     UnknownCommand {
         word: &'a [u8],

@@ -1,20 +1,16 @@
 // Bytes in hexadecimal: two digits each, the higher first, letters in either case.
-ghost use Rattle.std.specs.Prelude.{◌≡◌, ◌<◌, is_some, IfOk};
-ghost use Rattle.codes.specs.Texts.{all};
+ghost use Rattle.std.specs.Prelude.{◌≡◌, ◌+◌, ◌*◌, is_some, IfOk};
+ghost use Rattle.std.specs.List.{list_all};
 ghost use Rattle.movkrig.specs.Hexadecimal.{hex_digit, hex_value, hex_bytes, is_hexadecimal};
 
 use std::alloc::{AllocError, Global};
 use std::fmt;
 
+// What a digit stands for.
 fn digit(c: u8) -> Option<u8>
     ensures { result ≡ hex_digit c }
 {
-    match c {
-        b'0'..=b'9' => Some(c - b'0'),
-        b'a'..=b'f' => Some(c - b'a' + 10),
-        b'A'..=b'F' => Some(c - b'A' + 10),
-        _ => None,
-    }
+    char::from(c).to_digit(16).map(|value| value as u8)
 }
 
 // Whether a word is pairs of digits.
@@ -25,33 +21,27 @@ pub fn is_hexadecimal(word: &[u8]) -> bool
 }
 
 fn are_digits(word: &[u8]) -> bool
-    ensures { result ≡ all (λ c. is_some (hex_digit c)) word.now }
+    ensures { result ≡ list_all (λ c. is_some (hex_digit c)) word.now }
 {
-    for c in word {
-        if digit(*c).is_none() {
-            return false;
-        }
-    }
-    true
+    word.iter().all(|c| digit(*c).is_some())
 }
 
-// What a digit stands for; 0 for what is none.
-fn value(c: u8) -> u8
-    ensures value { result ≡ hex_value c }
-    ensures small { result < 16 }
+// The byte of two digits. What is none counts as 0: words are tested where they are read, and nothing is asked here.
+fn byte(high: u8, low: u8) -> u8
+    ensures { result ≡ 16 * hex_value high + hex_value low }
 {
-    digit(c).unwrap_or(0)
+    16 * digit(high).unwrap_or(0) + digit(low).unwrap_or(0)
 }
 
 // The bytes that pairs of digits stand for.
 pub fn bytes_of(heap: Global, word: &[u8]) -> Result<Vec<u8>, AllocError>
     ensures { IfOk result (λ v. v.items ≡ hex_bytes word.now) }
 {
-    let mut bytes = Vec::new(heap);
-    for i in 0..word.len() / 2 {
-        bytes.push(16 * value(word[2 * i]) + value(word[2 * i + 1]))?;
-    }
-    Ok(bytes)
+    let (pairs, _) = word.as_chunks::<2>();
+    pairs
+        .iter()
+        .map(|pair| byte(pair[0], pair[1]))
+        .collect(heap)
 }
 
 // Bytes as they are shown, in small letters.

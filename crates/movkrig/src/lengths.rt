@@ -1,6 +1,6 @@
 // Lengths of the buffers that commands write into.
 ghost use Rattle.std.specs.Prelude.{◌≡◌};
-ghost use Rattle.movkrig.specs.Lengths.{length_of};
+ghost use Rattle.movkrig.specs.Lengths.{length_of, with_digit};
 
 // Where a command does not say it; any line and any payload has room.
 pub const USUAL_LENGTH: usize = 128;
@@ -11,15 +11,18 @@ pub const MOST_LENGTH: usize = 1024;
 pub fn read_length(word: &[u8]) -> Option<usize>
     ensures { result ≡ length_of word.now }
 {
-    let mut length: usize = 0;
+    let mut length = 0;
     for c in word {
-        if *c < b'0' || b'9' < *c {
-            return None;
-        }
-        length = 10 * length + (*c - b'0') as usize;
-        if length > MOST_LENGTH {
-            return None;
-        }
+        length = with_digit(length, *c)?;
     }
     Some(length)
+}
+
+// The number with one digit more behind it, if it is no longer than a length may be.
+fn with_digit(number: usize, c: u8) -> Option<usize>
+    ensures { result ≡ with_digit number c }
+{
+    let digit = char::from(c).to_digit(10)? as usize;
+    let more = number.checked_mul(10)?.checked_add(digit)?;
+    (more <= MOST_LENGTH).then_some(more)
 }

@@ -13,18 +13,18 @@ mod names;
 mod operands;
 mod printable;
 mod symbols;
+mod tasks;
 mod words;
-mod writing;
 
-use anyhow::anyhow;
 use arguments::Request;
+use errors::Failure;
 use execution::reply;
 use help::Help;
 use std::env;
 use std::io::{BufRead, BufReader};
 use std::process::ExitCode;
 
-// An error is printed here and ends the process with status 1; a main that returned it would print it once more.
+// An `Err` of `main` would be printed as `Error: ..`, and this program's word is `error: ..`.
 fn main(rt: HostRuntime) -> ExitCode {
     match run(&rt) {
         Ok(()) => ExitCode::SUCCESS,
@@ -36,10 +36,9 @@ fn main(rt: HostRuntime) -> ExitCode {
 }
 
 fn run(rt: &HostRuntime) -> anyhow::Result<()> {
-    match Request::read(env::args(rt)?) {
+    match Request::read(env::args(rt)?)? {
         Request::Commands => answer_all(rt),
         Request::Help => Ok(rt.print(Help)?),
-        Request::Unknown => Err(anyhow!("unknown argument: expected none, or --help")),
     }
 }
 
@@ -47,8 +46,11 @@ fn run(rt: &HostRuntime) -> anyhow::Result<()> {
 fn answer_all(rt: &HostRuntime) -> anyhow::Result<()> {
     for line in BufReader::new(rt.alloc(), rt.stdin())?.split(rt.alloc(), b'\n') {
         let line = line?;
-        if let Some(answer) = reply(rt.alloc(), line.as_slice())? {
-            rt.println(answer)?;
+        match reply(rt.alloc(), line.as_slice()) {
+            Ok(Some(answer)) => rt.println(answer)?,
+            Ok(None) => {}
+            Err(failure @ Failure::OutOfMemory(_)) => return Err(failure.into()),
+            Err(failure) => rt.println(failure)?,
         }
     }
     Ok(())

@@ -1,8 +1,9 @@
 // The names that words of the command language stand for: commands and kinds of lines.
 ghost use Rattle.std.specs.Prelude.{◌≡◌};
-ghost use Rattle.movkrig.specs.Names.{byte_kind, command_named, kind_named};
+ghost use Rattle.movkrig.specs.Names.{byte_kind};
+ghost use Rattle.movkrig.specs.Shown.{NamesCommand, NamesKind};
 
-use crate::words::is;
+use crate::errors::CommandError;
 
 #[derive(Clone, Copy, PartialEq, Eq, Debug)]
 pub enum CommandName {
@@ -16,22 +17,6 @@ impl CommandName {
     // What an error says was expected in the place of a name.
     pub const EXPECTED: &'static str = "check, lone, encode or decode";
 
-    pub fn read(word: &[u8]) -> Option<CommandName>
-        ensures { result ≡ command_named word.now }
-    {
-        if is(word, "check") {
-            Some(CommandName::Check)
-        } else if is(word, "lone") {
-            Some(CommandName::Lone)
-        } else if is(word, "encode") {
-            Some(CommandName::Encode)
-        } else if is(word, "decode") {
-            Some(CommandName::Decode)
-        } else {
-            None
-        }
-    }
-
     // The name and the words that it takes.
     pub fn usage(self) -> &'static str {
         match self {
@@ -39,6 +24,22 @@ impl CommandName {
             CommandName::Lone => "lone KIND ID PAYLOAD [LEN]",
             CommandName::Encode => "encode KIND HEX [LEN]",
             CommandName::Decode => "decode KIND CHARS [LEN]",
+        }
+    }
+}
+
+impl<'a> TryFrom<&'a [u8]> for CommandName {
+    type Error = CommandError<'a>;
+
+    ghost try_from_gives = { NamesCommand };
+
+    fn try_from(word: &'a [u8]) -> Result<CommandName, CommandError<'a>> {
+        match word {
+            b"check" => Ok(CommandName::Check),
+            b"lone" => Ok(CommandName::Lone),
+            b"encode" => Ok(CommandName::Encode),
+            b"decode" => Ok(CommandName::Decode),
+            _ => Err(CommandError::UnknownCommand { word }),
         }
     }
 }
@@ -54,20 +55,6 @@ impl KindName {
     // What an error says was expected in the place of a kind.
     pub const EXPECTED: &'static str = "short, long or digits";
 
-    pub fn read(word: &[u8]) -> Option<KindName>
-        ensures { result ≡ kind_named word.now }
-    {
-        if is(word, "short") {
-            Some(KindName::Short)
-        } else if is(word, "long") {
-            Some(KindName::Long)
-        } else if is(word, "digits") {
-            Some(KindName::Digits)
-        } else {
-            None
-        }
-    }
-
     // The same as a kind whose payloads hold bytes; digits hold none.
     pub fn with_bytes(self) -> Option<ByteKindName>
         ensures { result ≡ byte_kind self }
@@ -76,6 +63,21 @@ impl KindName {
             KindName::Short => Some(ByteKindName::Short),
             KindName::Long => Some(ByteKindName::Long),
             KindName::Digits => None,
+        }
+    }
+}
+
+impl<'a> TryFrom<&'a [u8]> for KindName {
+    type Error = CommandError<'a>;
+
+    ghost try_from_gives = { NamesKind };
+
+    fn try_from(word: &'a [u8]) -> Result<KindName, CommandError<'a>> {
+        match word {
+            b"short" => Ok(KindName::Short),
+            b"long" => Ok(KindName::Long),
+            b"digits" => Ok(KindName::Digits),
+            _ => Err(CommandError::UnknownKind { word }),
         }
     }
 }

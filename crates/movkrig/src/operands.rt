@@ -1,8 +1,7 @@
 // The words behind a command's name, each read as what the command takes it for.
-ghost use Rattle.std.specs.Prelude.{◌≡◌, []};
+ghost use Rattle.std.specs.Prelude.{[]};
 ghost use Rattle.movkrig.specs.Commands.{take_word, take_kind, take_byte_kind, take_bounded, take_hexadecimal, take_length, take_end};
-ghost use Rattle.movkrig.specs.Shown.{ahead, Reads};
-ghost use Rattle.movkrig.specs.Words.{left_words};
+ghost use Rattle.movkrig.specs.Shown.{ahead, Reads, Step};
 
 use crate::errors::CommandError;
 use crate::hexadecimal::is_hexadecimal;
@@ -16,60 +15,41 @@ const MOST_SYMBOLS: usize = 1024;
 // How many digits of bytes a word may have: two for each of as many bytes.
 const MOST_HEXADECIMAL: usize = 2048;
 
+// The command is there for what an error says of it.
 #[derive(Clone, Copy)]
 pub struct Operands<'a> {
-    command: CommandName,
-    words: Words<'a>,
+    pub command: CommandName,
+    pub words: Words<'a>,
 }
 
 impl<'a> Operands<'a> {
-    pub fn new(command: CommandName, words: Words<'a>) -> Operands<'a>
-        ensures { (result.command ≡ command) × (ahead result ≡ left_words words.entry) }
-    {
-        Operands { command, words }
-    }
-
     // A word that may be anything.
     pub fn word(&mut self) -> Result<&'a [u8], CommandError<'a>>
-        ensures same { self.new.command ≡ self.old.command }
-        ensures reads { Reads (λ x. x.now) result (ahead self.new) (take_word self.old.command (ahead self.old)) }
+        ensures { Step (λ x. x.now) take_word self.old self.new result }
     {
-        match self.words.next() {
-            Some(word) => Ok(word),
-            None => Err(CommandError::MissingWord {
-                command: self.command,
-            }),
-        }
+        self.words.next().ok_or(CommandError::MissingWord {
+            command: self.command,
+        })
     }
 
     pub fn kind(&mut self) -> Result<KindName, CommandError<'a>>
-        ensures same { self.new.command ≡ self.old.command }
-        ensures reads { Reads (λ k. k) result (ahead self.new) (take_kind self.old.command (ahead self.old)) }
+        ensures { Step (λ k. k) take_kind self.old self.new result }
     {
-        let word = self.word()?;
-        match KindName::read(word) {
-            Some(kind) => Ok(kind),
-            None => Err(CommandError::UnknownKind { word }),
-        }
+        KindName::try_from(self.word()?)
     }
 
     // A kind whose payloads hold bytes.
     pub fn byte_kind(&mut self) -> Result<ByteKindName, CommandError<'a>>
-        ensures same { self.new.command ≡ self.old.command }
-        ensures reads { Reads (λ k. k) result (ahead self.new) (take_byte_kind self.old.command (ahead self.old)) }
+        ensures { Step (λ k. k) take_byte_kind self.old self.new result }
     {
-        match self.kind()?.with_bytes() {
-            Some(kind) => Ok(kind),
-            None => Err(CommandError::NoBytes {
-                command: self.command,
-            }),
-        }
+        self.kind()?.with_bytes().ok_or(CommandError::NoBytes {
+            command: self.command,
+        })
     }
 
     // A word of at most so many characters.
     fn bounded(&mut self, most: usize) -> Result<&'a [u8], CommandError<'a>>
-        ensures same { self.new.command ≡ self.old.command }
-        ensures reads { Reads (λ x. x.now) result (ahead self.new) (take_bounded self.old.command most (ahead self.old)) }
+        ensures { Step (λ x. x.now) (λ c. take_bounded c most) self.old self.new result }
     {
         let word = self.word()?;
         if word.len() <= most {
@@ -81,16 +61,14 @@ impl<'a> Operands<'a> {
 
     // Characters of symbols, or others.
     pub fn symbols(&mut self) -> Result<&'a [u8], CommandError<'a>>
-        ensures same { self.new.command ≡ self.old.command }
-        ensures reads { Reads (λ x. x.now) result (ahead self.new) (take_bounded self.old.command 1024 (ahead self.old)) }
+        ensures { Step (λ x. x.now) (λ c. take_bounded c 1024) self.old self.new result }
     {
         self.bounded(MOST_SYMBOLS)
     }
 
     // Bytes in hexadecimal.
     pub fn hexadecimal(&mut self) -> Result<&'a [u8], CommandError<'a>>
-        ensures same { self.new.command ≡ self.old.command }
-        ensures reads { Reads (λ x. x.now) result (ahead self.new) (take_hexadecimal self.old.command (ahead self.old)) }
+        ensures { Step (λ x. x.now) take_hexadecimal self.old self.new result }
     {
         let word = self.bounded(MOST_HEXADECIMAL)?;
         if is_hexadecimal(word) {
@@ -102,15 +80,11 @@ impl<'a> Operands<'a> {
 
     // The length of a buffer, which may be left out.
     pub fn length(&mut self) -> Result<usize, CommandError<'a>>
-        ensures same { self.new.command ≡ self.old.command }
-        ensures reads { Reads (λ n. n) result (ahead self.new) (take_length (ahead self.old)) }
+        ensures { Step (λ n. n) (λ _. take_length) self.old self.new result }
     {
         match self.words.next() {
             None => Ok(USUAL_LENGTH),
-            Some(word) => match read_length(word) {
-                Some(length) => Ok(length),
-                None => Err(CommandError::NoLength { word }),
-            },
+            Some(word) => read_length(word).ok_or(CommandError::NoLength { word }),
         }
     }
 
@@ -118,12 +92,10 @@ impl<'a> Operands<'a> {
     pub fn end(mut self) -> Result<(), CommandError<'a>>
         ensures { Reads (λ u. u) result [] (take_end self.entry.command (ahead self.entry)) }
     {
+        let command = self.command;
         match self.words.next() {
             None => Ok(()),
-            Some(word) => Err(CommandError::SurplusWord {
-                command: self.command,
-                word,
-            }),
+            Some(word) => Err(CommandError::SurplusWord { command, word }),
         }
     }
 }

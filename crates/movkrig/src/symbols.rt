@@ -12,20 +12,17 @@ const NO_SYMBOL: u8 = 255;
 pub fn numbers<K: Kind>(heap: Global, text: &[u8]) -> Result<Vec<u8>, AllocError>
     ensures { IfOk result (λ v. v.items ≡ numbers_of K.Kind.code text.now) }
 {
-    let mut numbers = Vec::new(heap);
-    for c in text {
-        numbers.push(codes::symbol_number::<K>(*c).unwrap_or(NO_SYMBOL))?;
-    }
-    Ok(numbers)
+    text.iter()
+        .map(|c| codes::symbol_number::<K>(*c).unwrap_or(NO_SYMBOL))
+        .collect(heap)
 }
 
 // The character of each symbol.
 pub fn characters<K: Kind>(heap: Global, numbers: &[u8]) -> Result<Vec<u8>, AllocError>
     ensures { IfOk result (λ v. v.items ≡ characters_of K.Kind.code numbers.now) }
 {
-    let mut text = Vec::new(heap);
-    for n in numbers {
-        text.push(codes::symbol_character::<K>(*n).unwrap_or(b'?'))?;
-    }
-    Ok(text)
+    numbers
+        .iter()
+        .map(|n| codes::symbol_character::<K>(*n).unwrap_or(b'?'))
+        .collect(heap)
 }

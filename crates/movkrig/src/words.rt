@@ -1,7 +1,7 @@
 // The words of a line: its longest runs of bytes that are not blank.
-ghost use Rattle.std.specs.Prelude.{◌≡◌, [], ◌∷◌, length, MatchOption};
-ghost use Rattle.std.specs.Str.{bytes_eq};
-ghost use Rattle.movkrig.specs.Words.{blank, Run, without_return, left_words};
+ghost use Rattle.std.specs.Prelude.{◌≡◌, not, [], ◌∷◌, length, MatchOption};
+ghost use Rattle.std.specs.List.{position};
+ghost use Rattle.movkrig.specs.Words.{blank, without_return, left_words};
 ghost use Rattle.std.specs.Iterator.{at_most};
 
 // Spaces and tabs stand between words.
@@ -11,33 +11,25 @@ fn is_blank(b: u8) -> bool
     b == b' ' || b == b'\t'
 }
 
-// Whether a word is this text.
-pub fn is(word: &[u8], text: &str) -> bool
-    ensures { result ≡ bytes_eq word.now text.now }
+// Where the first word begins.
+fn word_start(line: &[u8]) -> Option<usize>
+    ensures { result ≡ position (λ b. not (blank b)) line.now }
 {
-    word == text.as_bytes()
+    line.iter().position(|b| !is_blank(*b))
 }
 
-// How many bytes at the front are blank, or are not.
-fn run_length(line: &[u8], blanks: bool) -> usize
-    ensures { Run blanks result line.now }
+// Where the word at the front ends, if it is not the rest of the line.
+fn word_end(line: &[u8]) -> Option<usize>
+    ensures { result ≡ position blank line.now }
 {
-    for (i, b) in line.iter().enumerate() {
-        if is_blank(*b) != blanks {
-            return i;
-        }
-    }
-    line.len()
+    line.iter().position(|b| is_blank(*b))
 }
 
 // Some systems end a line by a carriage return and a newline.
 fn without_return(line: &[u8]) -> &[u8]
     ensures { result.now ≡ without_return line.now }
 {
-    match line.split_last() {
-        Some((last, front)) => if *last == b'\r' { front } else { line },
-        None => line,
-    }
+    line.strip_suffix(b"\r").unwrap_or(line)
 }
 
 // What is left of a line whose words are read one by one.
@@ -64,9 +56,9 @@ impl<'a> Iterator for Words<'a> {
     ghost remaining = { λ s. at_most (length s.rest.now) };
 
     fn next(&mut self) -> Option<&'a [u8]> {
-        let (_, rest) = self.rest.split_at(run_length(self.rest, true));
-        let (word, rest) = rest.split_at(run_length(rest, false));
+        let (_, rest) = self.rest.split_at(word_start(self.rest)?);
+        let (word, rest) = rest.split_at(word_end(rest).unwrap_or(rest.len()));
         self.rest = rest;
-        if word.is_empty() { None } else { Some(word) }
+        Some(word)
     }
 }

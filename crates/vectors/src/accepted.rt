@@ -1,114 +1,111 @@
 // Lines of BIP-93 that are accepted, with their parts.
+use crate::checks::{Lone, Share};
 use crate::tally::Tally;
 use kinds::{LongLetters, ShortLetters};
-use std::alloc::Global;
 
-pub fn compare(heap: Global) -> anyhow::Result<Tally> {
-    let mut tally = Tally::new(heap, "accepted");
-    lone(&mut tally)?;
-    shared(&mut tally)?;
-    names(&mut tally)?;
-    cash(&mut tally)?;
-    Ok(tally)
+pub fn compare(tally: &mut Tally<'_>) -> anyhow::Result<()> {
+    for lone in SHORT {
+        tally.lone::<ShortLetters>(lone)?;
+    }
+    tally.lone::<LongLetters>(LONG)?;
+    for share in SHARES {
+        tally.share::<ShortLetters>(share)?;
+    }
+    Ok(())
 }
 
 // Secrets that are not shared.
-fn lone(tally: &mut Tally) -> anyhow::Result<()> {
-    tally.lone::<ShortLetters>(
-        "ms10testsxxxxxxxxxxxxxxxxxxxxxxxxxx4nzvca9cmczlw",
-        "test",
-        "xxxxxxxxxxxxxxxxxxxxxxxxxx",
-    )?;
-    tally.lone::<ShortLetters>(
-        "ms10leetsllhdmn9m42vcsamx24zrxgs3qrl7ahwvhw4fnzrhve25gvezzyqqtum9pgv99ycma",
-        "leet",
-        "llhdmn9m42vcsamx24zrxgs3qrl7ahwvhw4fnzrhve25gvezzyqq",
-    )?;
-    tally.lone::<LongLetters>(
-        "MS100C8VSM32ZXFGUHPCHTLUPZRY9X8GF2TVDW0S3JN54KHCE6MUA7LQPZYGSFJD6AN074RXVCEMLH8WU3TK925ACDEFGHJKLMNPQRSTUVWXY06FHPV80UNDVARHRAK",
-        "0C8V",
-        "M32ZXFGUHPCHTLUPZRY9X8GF2TVDW0S3JN54KHCE6MUA7LQPZYGSFJD6AN074RXVCEMLH8WU3TK925ACDEFGHJKLMNPQRSTUVWXY06F",
-    )
-}
+const SHORT: [Lone; 2] = [
+    Lone {
+        line: "ms10testsxxxxxxxxxxxxxxxxxxxxxxxxxx4nzvca9cmczlw",
+        identifier: "test",
+        payload: "xxxxxxxxxxxxxxxxxxxxxxxxxx",
+    },
+    Lone {
+        line: "ms10leetsllhdmn9m42vcsamx24zrxgs3qrl7ahwvhw4fnzrhve25gvezzyqqtum9pgv99ycma",
+        identifier: "leet",
+        payload: "llhdmn9m42vcsamx24zrxgs3qrl7ahwvhw4fnzrhve25gvezzyqq",
+    },
+];
 
-// Secrets that are shared: shares with the index s.
-fn shared(tally: &mut Tally) -> anyhow::Result<()> {
-    tally.share::<ShortLetters>(
-        "MS12NAMES6XQGUZTTXKEQNJSJZV4JV3NZ5K3KWGSPHUH6EVW",
-        2,
-        "NAME",
-        "S",
-        "6XQGUZTTXKEQNJSJZV4JV3NZ5K",
-    )?;
-    tally.share::<ShortLetters>(
-        "ms13cashsllhdmn9m42vcsamx24zrxgs3qqjzqud4m0d6nln",
-        3,
-        "cash",
-        "s",
-        "llhdmn9m42vcsamx24zrxgs3qq",
-    )
-}
+const LONG: Lone = Lone {
+    line: "MS100C8VSM32ZXFGUHPCHTLUPZRY9X8GF2TVDW0S3JN54KHCE6MUA7LQPZYGSFJD6AN074RXVCEMLH8WU3TK925ACDEFGHJKLMNPQRSTUVWXY06FHPV80UNDVARHRAK",
+    identifier: "0C8V",
+    payload: "M32ZXFGUHPCHTLUPZRY9X8GF2TVDW0S3JN54KHCE6MUA7LQPZYGSFJD6AN074RXVCEMLH8WU3TK925ACDEFGHJKLMNPQRSTUVWXY06F",
+};
 
-// Shares of the first of these.
-fn names(tally: &mut Tally) -> anyhow::Result<()> {
-    tally.share::<ShortLetters>(
-        "MS12NAMEA320ZYXWVUTSRQPNMLKJHGFEDCAXRPP870HKKQRM",
-        2,
-        "NAME",
-        "A",
-        "320ZYXWVUTSRQPNMLKJHGFEDCA",
-    )?;
-    tally.share::<ShortLetters>(
-        "MS12NAMECACDEFGHJKLMNPQRSTUVWXYZ023FTR2GDZMPY6PN",
-        2,
-        "NAME",
-        "C",
-        "ACDEFGHJKLMNPQRSTUVWXYZ023",
-    )?;
-    tally.share::<ShortLetters>(
-        "MS12NAMEDLL4F8JLH4E5VDVULDLFXU2JHDNLSM97XVENRXEG",
-        2,
-        "NAME",
-        "D",
-        "LL4F8JLH4E5VDVULDLFXU2JHDN",
-    )
-}
-
-// Shares of the second.
-fn cash(tally: &mut Tally) -> anyhow::Result<()> {
-    tally.share::<ShortLetters>(
-        "ms13casha320zyxwvutsrqpnmlkjhgfedca2a8d0zehn8a0t",
-        3,
-        "cash",
-        "a",
-        "320zyxwvutsrqpnmlkjhgfedca",
-    )?;
-    tally.share::<ShortLetters>(
-        "ms13cashcacdefghjklmnpqrstuvwxyz023949xq35my48dr",
-        3,
-        "cash",
-        "c",
-        "acdefghjklmnpqrstuvwxyz023",
-    )?;
-    tally.share::<ShortLetters>(
-        "ms13cashd0wsedstcdcts64cd7wvy4m90lm28w4ffupqs7rm",
-        3,
-        "cash",
-        "d",
-        "0wsedstcdcts64cd7wvy4m90lm",
-    )?;
-    tally.share::<ShortLetters>(
-        "ms13casheekgpemxzshcrmqhaydlp6yhms3ws7320xyxsar9",
-        3,
-        "cash",
-        "e",
-        "ekgpemxzshcrmqhaydlp6yhms3",
-    )?;
-    tally.share::<ShortLetters>(
-        "ms13cashf8jh6sdrkpyrsp5ut94pj8ktehhw2hfvyrj48704",
-        3,
-        "cash",
-        "f",
-        "8jh6sdrkpyrsp5ut94pj8ktehh",
-    )
-}
+const SHARES: [Share; 10] = [
+    // Secrets that are shared: shares with the index s.
+    Share {
+        line: "MS12NAMES6XQGUZTTXKEQNJSJZV4JV3NZ5K3KWGSPHUH6EVW",
+        threshold: 2,
+        identifier: "NAME",
+        index: "S",
+        payload: "6XQGUZTTXKEQNJSJZV4JV3NZ5K",
+    },
+    Share {
+        line: "ms13cashsllhdmn9m42vcsamx24zrxgs3qqjzqud4m0d6nln",
+        threshold: 3,
+        identifier: "cash",
+        index: "s",
+        payload: "llhdmn9m42vcsamx24zrxgs3qq",
+    },
+    // Shares of the first of these.
+    Share {
+        line: "MS12NAMEA320ZYXWVUTSRQPNMLKJHGFEDCAXRPP870HKKQRM",
+        threshold: 2,
+        identifier: "NAME",
+        index: "A",
+        payload: "320ZYXWVUTSRQPNMLKJHGFEDCA",
+    },
+    Share {
+        line: "MS12NAMECACDEFGHJKLMNPQRSTUVWXYZ023FTR2GDZMPY6PN",
+        threshold: 2,
+        identifier: "NAME",
+        index: "C",
+        payload: "ACDEFGHJKLMNPQRSTUVWXYZ023",
+    },
+    Share {
+        line: "MS12NAMEDLL4F8JLH4E5VDVULDLFXU2JHDNLSM97XVENRXEG",
+        threshold: 2,
+        identifier: "NAME",
+        index: "D",
+        payload: "LL4F8JLH4E5VDVULDLFXU2JHDN",
+    },
+    // Shares of the second.
+    Share {
+        line: "ms13casha320zyxwvutsrqpnmlkjhgfedca2a8d0zehn8a0t",
+        threshold: 3,
+        identifier: "cash",
+        index: "a",
+        payload: "320zyxwvutsrqpnmlkjhgfedca",
+    },
+    Share {
+        line: "ms13cashcacdefghjklmnpqrstuvwxyz023949xq35my48dr",
+        threshold: 3,
+        identifier: "cash",
+        index: "c",
+        payload: "acdefghjklmnpqrstuvwxyz023",
+    },
+    Share {
+        line: "ms13cashd0wsedstcdcts64cd7wvy4m90lm28w4ffupqs7rm",
+        threshold: 3,
+        identifier: "cash",
+        index: "d",
+        payload: "0wsedstcdcts64cd7wvy4m90lm",
+    },
+    Share {
+        line: "ms13casheekgpemxzshcrmqhaydlp6yhms3ws7320xyxsar9",
+        threshold: 3,
+        identifier: "cash",
+        index: "e",
+        payload: "ekgpemxzshcrmqhaydlp6yhms3",
+    },
+    Share {
+        line: "ms13cashf8jh6sdrkpyrsp5ut94pj8ktehhw2hfvyrj48704",
+        threshold: 3,
+        identifier: "cash",
+        index: "f",
+        payload: "8jh6sdrkpyrsp5ut94pj8ktehh",
+    },
+];

@@ -1,62 +1,61 @@
-// Lines under check: what each is made of, or the number of its refusal.
-use crate::tally::{Tally, Value};
-use codes::{Line, Part};
+// Lines under check: what each is made of, or why it is refused.
+use crate::refusals::is_refused;
+use crate::tally::Tally;
+use codes::{Line, Part, Refusal};
 use kinds::Kind;
 
-impl Tally {
-    // A lone secret with these parts.
-    pub fn lone<K: Kind>(
-        &mut self,
-        line: &'static str,
-        identifier: &str,
-        payload: &str,
-    ) -> anyhow::Result<()> {
-        let agrees = match codes::check::<K>(line.as_bytes()) {
-            Ok(
-                Line::Lone {
-                    identifier: i,
-                    payload: p,
-                },
-            ) => is(i, 4, identifier) && is(p, 9, payload),
-            _ => false,
+// The line of a lone secret, and its parts.
+#[derive(Clone, Copy)]
+pub struct Lone {
+    pub line: &'static str,
+    pub identifier: &'static str,
+    pub payload: &'static str,
+}
+
+// The line of a share, and its parts.
+#[derive(Clone, Copy)]
+pub struct Share {
+    pub line: &'static str,
+    pub threshold: u8,
+    pub identifier: &'static str,
+    pub index: &'static str,
+    pub payload: &'static str,
+}
+
+impl Tally<'_> {
+    pub fn lone<K: Kind>(&mut self, lone: Lone) -> anyhow::Result<()> {
+        let parts = Line::Lone {
+            identifier: part(4, lone.identifier),
+            payload: part(9, lone.payload),
         };
-        Ok(self.add(Value::Text(line), agrees)?)
+        self.accepted::<K>(lone.line, parts)
     }
 
-    // A share with these parts.
-    pub fn share<K: Kind>(
-        &mut self,
-        line: &'static str,
-        threshold: u8,
-        identifier: &str,
-        index: &str,
-        payload: &str,
-    ) -> anyhow::Result<()> {
-        let agrees = match codes::check::<K>(line.as_bytes()) {
-            Ok(
-                Line::Share {
-                    threshold: k,
-                    identifier: i,
-                    index: x,
-                    payload: p,
-                },
-            ) => k == threshold && is(i, 4, identifier) && is(x, 8, index) && is(p, 9, payload),
-            _ => false,
+    pub fn share<K: Kind>(&mut self, share: Share) -> anyhow::Result<()> {
+        let parts = Line::Share {
+            threshold: share.threshold,
+            identifier: part(4, share.identifier),
+            index: part(8, share.index),
+            payload: part(9, share.payload),
         };
-        Ok(self.add(Value::Text(line), agrees)?)
+        self.accepted::<K>(share.line, parts)
     }
 
-    // No line of this kind, by the rule with this number.
-    pub fn refused<K: Kind>(&mut self, line: &'static str, number: u8) -> anyhow::Result<()> {
-        let agrees = match codes::check::<K>(line.as_bytes()) {
-            Ok(_) => false,
-            Err(refusal) => refusal.number() == number,
-        };
-        Ok(self.add(Value::Text(line), agrees)?)
+    // A line with these parts.
+    fn accepted<K: Kind>(&mut self, line: &str, parts: Line<'_>) -> anyhow::Result<()> {
+        self.add(line, codes::check::<K>(line.as_bytes()) == Ok(parts))
+    }
+
+    // No line of this kind.
+    pub fn refused<K: Kind>(&mut self, line: &str, refusal: Refusal) -> anyhow::Result<()> {
+        let agrees = is_refused(codes::check::<K>(line.as_bytes()), refusal);
+        self.add(line, agrees)
     }
 }
 
-// Whether a part begins at this place and is this text.
-fn is(part: Part<'_>, place: usize, text: &str) -> bool {
-    part.place == place && part.text == text.as_bytes()
+fn part(place: usize, text: &'static str) -> Part<'static> {
+    Part {
+        place,
+        text: text.as_bytes(),
+    }
 }

@@ -6,6 +6,8 @@ mod buffers;
 mod checks;
 mod counts;
 mod digits;
+mod filled;
+mod refusals;
 mod refused;
 mod seeds;
 mod symbols;
@@ -26,22 +28,33 @@ fn main(rt: HostRuntime) -> ExitCode {
     }
 }
 
-// A line for each group, and the count of all.
+// A line for each group, and the count of all. No table of the groups' functions: a pointer to a function that takes a
+// `&mut Tally<'_>` gets no proof.
 fn run(rt: &HostRuntime) -> anyhow::Result<()> {
-    let heap = rt.alloc();
-    let mut all = Tally::new(heap, "all");
-    all.join(shown(rt, seeds::compare(heap)?)?);
-    all.join(shown(rt, written::compare(heap)?)?);
-    all.join(shown(rt, accepted::compare(heap)?)?);
-    all.join(shown(rt, refused::compare(heap)?)?);
-    all.join(shown(rt, counts::compare(heap)?)?);
-    all.join(shown(rt, digits::compare(heap)?)?);
-    all.join(shown(rt, buffers::compare(heap)?)?);
-    shown(rt, all)?;
+    let mut all = Tally::new(rt.alloc(), "all");
+    group(rt, &mut all, "seeds", seeds::compare)?;
+    group(rt, &mut all, "written", written::compare)?;
+    group(rt, &mut all, "accepted", accepted::compare)?;
+    group(rt, &mut all, "refused", refused::compare)?;
+    group(rt, &mut all, "counts", counts::compare)?;
+    group(rt, &mut all, "digits", digits::compare)?;
+    group(rt, &mut all, "buffers", buffers::compare)?;
+    rt.println(all)?;
     Ok(())
 }
 
-fn shown(rt: &HostRuntime, tally: Tally) -> anyhow::Result<Tally> {
+// Compares the values of one group, and counts them with all.
+fn group<F: FnOnce(&mut Tally<'_>) -> anyhow::Result<()>>(
+    rt: &HostRuntime,
+    all: &mut Tally<'_>,
+    name: &str,
+    compare: F,
+) -> anyhow::Result<()>
+    requires { F.IsAlwaysCallable compare }
+{
+    let mut tally = Tally::new(rt.alloc(), name);
+    compare(&mut tally)?;
     rt.println(tally)?;
-    Ok(tally)
+    all.join(tally);
+    Ok(())
 }

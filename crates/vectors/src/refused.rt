@@ -1,17 +1,29 @@
 // Lines of letters that are refused, by the first rule that each breaks. Some are of BIP-93; the check letters of the others
 // were worked out apart from this library.
 use crate::tally::Tally;
-use kinds::{LongLetters, ShortLetters};
-use std::alloc::Global;
+use codes::Refusal;
+use kinds::{Kind, LongLetters, ShortLetters};
 
-pub fn compare(heap: Global) -> anyhow::Result<Tally> {
-    let mut tally = Tally::new(heap, "refused");
-    lengths(&mut tally)?;
-    prefixes_and_characters(&mut tally)?;
-    cases(&mut tally)?;
-    checksums(&mut tally)?;
-    heads(&mut tally)?;
-    Ok(tally)
+pub fn compare(tally: &mut Tally<'_>) -> anyhow::Result<()> {
+    refused::<ShortLetters>(tally, Refusal::Length, &LENGTHS)?;
+    refused::<LongLetters>(tally, Refusal::Length, &LENGTHS)?;
+    refused::<ShortLetters>(tally, Refusal::Prefix, &PREFIXES)?;
+    refused::<ShortLetters>(tally, Refusal::Character, &CHARACTERS)?;
+    refused::<ShortLetters>(tally, Refusal::MixedCase, &CASES)?;
+    refused::<ShortLetters>(tally, Refusal::Checksum, &CHECKSUMS)?;
+    refused::<LongLetters>(tally, Refusal::Checksum, &LONG_CHECKSUMS)?;
+    other_checksums(tally)?;
+    refused::<ShortLetters>(tally, Refusal::Threshold, &THRESHOLDS)?;
+    refused::<LongLetters>(tally, Refusal::Threshold, &LONG_THRESHOLDS)?;
+    refused::<ShortLetters>(tally, Refusal::LoneIndex, &INDICES)?;
+    refused::<LongLetters>(tally, Refusal::LoneIndex, &LONG_INDICES)
+}
+
+fn refused<K: Kind>(tally: &mut Tally<'_>, refusal: Refusal, lines: &[&str]) -> anyhow::Result<()> {
+    for line in lines {
+        tally.refused::<K>(line, refusal)?;
+    }
+    Ok(())
 }
 
 // Lines with a right checksum of either kind, and a length that neither kind has.
@@ -34,97 +46,73 @@ const LENGTHS: [&str; 13] = [
     "0fauxsxxxxxxxxxxxxxxxxxxxxxxxxxxuqxkk05lyf3x2",
 ];
 
-fn lengths(tally: &mut Tally) -> anyhow::Result<()> {
-    for line in LENGTHS {
-        tally.refused::<ShortLetters>(line, 11)?;
-        tally.refused::<LongLetters>(line, 11)?;
-    }
-    Ok(())
-}
+const PREFIXES: [&str; 4] = [
+    "mz10fauxsxxxxxxxxxxxxxxxxxxxxxxxxxxuqxkk05lyf3x2",
+    "ns10fauxsxxxxxxxxxxxxxxxxxxxxxxxxxxuqxkk05lyf3x2",
+    "ms20fauxsxxxxxxxxxxxxxxxxxxxxxxxxxxuqxkk05lyf3x2",
+    "NP10FAUXSXXXXXXXXXXXXXXXXXXXXXXXXXXUQXKK05LYF3X2",
+];
 
-fn prefixes_and_characters(tally: &mut Tally) -> anyhow::Result<()> {
-    for line in [
-        "mz10fauxsxxxxxxxxxxxxxxxxxxxxxxxxxxuqxkk05lyf3x2",
-        "ns10fauxsxxxxxxxxxxxxxxxxxxxxxxxxxxuqxkk05lyf3x2",
-        "ms20fauxsxxxxxxxxxxxxxxxxxxxxxxxxxxuqxkk05lyf3x2",
-        "NP10FAUXSXXXXXXXXXXXXXXXXXXXXXXXXXXUQXKK05LYF3X2",
-    ] {
-        tally.refused::<ShortLetters>(line, 12)?;
-    }
-    for line in [
-        "ms10fauxsbxxxxxxxxxxxxxxxxxxxxxxxxxuqxkk05lyf3x2",
-        "ms10fauxsxxxxxxxxxxxxxxxxxxxxxxxxxiuqxkk05lyf3x2",
-        "ms10fouxsxxxxxxxxxxxxxxxxxxxxxxxxxxuqxkk05lyf3x2",
-        "ms10faux1xxxxxxxxxxxxxxxxxxxxxxxxxxuqxkk05lyf3x2",
-        "ms11fauxsxxxxxxxxxxxxxxxxxxxxxxxxxxuqxkk05lyf3x2",
-        "ms10fauxsxxxxxxxxxxxxxxxxxxxxxxxxxxuqxkk05lyf3x-",
-    ] {
-        tally.refused::<ShortLetters>(line, 13)?;
-    }
-    Ok(())
-}
+const CHARACTERS: [&str; 6] = [
+    "ms10fauxsbxxxxxxxxxxxxxxxxxxxxxxxxxuqxkk05lyf3x2",
+    "ms10fauxsxxxxxxxxxxxxxxxxxxxxxxxxxiuqxkk05lyf3x2",
+    "ms10fouxsxxxxxxxxxxxxxxxxxxxxxxxxxxuqxkk05lyf3x2",
+    "ms10faux1xxxxxxxxxxxxxxxxxxxxxxxxxxuqxkk05lyf3x2",
+    "ms11fauxsxxxxxxxxxxxxxxxxxxxxxxxxxxuqxkk05lyf3x2",
+    "ms10fauxsxxxxxxxxxxxxxxxxxxxxxxxxxxuqxkk05lyf3x-",
+];
 
 // One line of BIP-93 with small letters and capitals.
-fn cases(tally: &mut Tally) -> anyhow::Result<()> {
-    for line in [
-        "Ms10fauxsxxxxxxxxxxxxxxxxxxxxxxxxxxuqxkk05lyf3x2",
-        "mS10fauxsxxxxxxxxxxxxxxxxxxxxxxxxxxuqxkk05lyf3x2",
-        "MS10fauxsxxxxxxxxxxxxxxxxxxxxxxxxxxuqxkk05lyf3x2",
-        "ms10FAUXsxxxxxxxxxxxxxxxxxxxxxxxxxxuqxkk05lyf3x2",
-        "ms10fauxSxxxxxxxxxxxxxxxxxxxxxxxxxxuqxkk05lyf3x2",
-        "ms10fauxsXXXXXXXXXXXXXXXXXXXXXXXXXXuqxkk05lyf3x2",
-        "ms10fauxsxxxxxxxxxxxxxxxxxxxxxxxxxxUQXKK05LYF3X2",
-    ] {
-        tally.refused::<ShortLetters>(line, 14)?;
-    }
-    Ok(())
-}
+const CASES: [&str; 7] = [
+    "Ms10fauxsxxxxxxxxxxxxxxxxxxxxxxxxxxuqxkk05lyf3x2",
+    "mS10fauxsxxxxxxxxxxxxxxxxxxxxxxxxxxuqxkk05lyf3x2",
+    "MS10fauxsxxxxxxxxxxxxxxxxxxxxxxxxxxuqxkk05lyf3x2",
+    "ms10FAUXsxxxxxxxxxxxxxxxxxxxxxxxxxxuqxkk05lyf3x2",
+    "ms10fauxSxxxxxxxxxxxxxxxxxxxxxxxxxxuqxkk05lyf3x2",
+    "ms10fauxsXXXXXXXXXXXXXXXXXXXXXXXXXXuqxkk05lyf3x2",
+    "ms10fauxsxxxxxxxxxxxxxxxxxxxxxxxxxxUQXKK05LYF3X2",
+];
 
-fn checksums(tally: &mut Tally) -> anyhow::Result<()> {
-    for line in [
-        "ms10fauxsxxxxxxxxxxxxxxxxxxxxxxxxxxve740yyge2ghq",
-        "ms10fauxsxxxxxxxxxxxxxxxxxxxxxxxxxxve740yyge2ghp",
-        "ms10testsxxxxxxxxxxxxxxxxxxxxxxxxxx4nzvca9cmczlq",
-        "ms10testsxxxxxxxxxxxxxxxxxxxxxxxxxq4nzvca9cmczlw",
-    ] {
-        tally.refused::<ShortLetters>(line, 21)?;
-    }
-    tally.refused::<LongLetters>(
-        "MS100C8VSM32ZXFGUHPCHTLUPZRY9X8GF2TVDW0S3JN54KHCE6MUA7LQPZYGSFJD6AN074RXVCEMLH8WU3TK925ACDEFGHJKLMNPQRSTUVWXY06FHPV80UNDVARHRAQ",
-        21,
-    )?;
-    // The short checksum in a line as long as the long kind has, and the long checksum in a short line.
+const CHECKSUMS: [&str; 4] = [
+    "ms10fauxsxxxxxxxxxxxxxxxxxxxxxxxxxxve740yyge2ghq",
+    "ms10fauxsxxxxxxxxxxxxxxxxxxxxxxxxxxve740yyge2ghp",
+    "ms10testsxxxxxxxxxxxxxxxxxxxxxxxxxx4nzvca9cmczlq",
+    "ms10testsxxxxxxxxxxxxxxxxxxxxxxxxxq4nzvca9cmczlw",
+];
+
+const LONG_CHECKSUMS: [&str; 1] = [
+    "MS100C8VSM32ZXFGUHPCHTLUPZRY9X8GF2TVDW0S3JN54KHCE6MUA7LQPZYGSFJD6AN074RXVCEMLH8WU3TK925ACDEFGHJKLMNPQRSTUVWXY06FHPV80UNDVARHRAQ",
+];
+
+// The short checksum in a line as long as the long kind has, and the long checksum in a short line.
+fn other_checksums(tally: &mut Tally<'_>) -> anyhow::Result<()> {
     let long =
         "ms12nameart4p0l39mndf88fdnm93l0p4traehheart4p0l39mndf88fdnm93l0p4traehheart4p0l39mndf88ktq3fhf69jmyy";
-    tally.refused::<LongLetters>(long, 21)?;
-    tally.refused::<ShortLetters>(long, 11)?;
+    tally.refused::<LongLetters>(long, Refusal::Checksum)?;
+    tally.refused::<ShortLetters>(long, Refusal::Length)?;
     let short = "ms12nameart4p0l39mndf88fdnm93l0p4jznw2h43g77dgdu";
-    tally.refused::<ShortLetters>(short, 21)?;
-    tally.refused::<LongLetters>(short, 11)
+    tally.refused::<ShortLetters>(short, Refusal::Checksum)?;
+    tally.refused::<LongLetters>(short, Refusal::Length)
 }
 
-// Right checksums, with a letter for the threshold, or an index other than s of a secret that is not shared.
-fn heads(tally: &mut Tally) -> anyhow::Result<()> {
-    for line in [
-        "ms1fauxxxxxxxxxxxxxxxxxxxxxxxxxxxxxda3kr3s0s2swg",
-        "ms1sfauxsxxxxxxxxxxxxxxxxxxxxxxxxxxmr5wg8uvt8mvj",
-        "ms1lfauxsxxxxxxxxxxxxxxxxxxxxxxxxxxw235qkdw0yyng",
-    ] {
-        tally.refused::<ShortLetters>(line, 31)?;
-    }
-    tally.refused::<LongLetters>(
-        "ms1lnameart4p0l39mndf88fdnm93l0p4traehheart4p0l39mndf88fdnm93l0p4traehheart4p0l39mndf0vmwk2c8nsy5v47",
-        31,
-    )?;
-    for line in [
-        "ms10fauxxxxxxxxxxxxxxxxxxxxxxxxxxxx0z26tfn0ulw3p",
-        "ms10fauxqxxxxxxxxxxxxxxxxxxxxxxxxxx9a62wpqp4e5vz",
-        "ms10fauxcxxxxxxxxxxxxxxxxxxxxxxxxxxy6gc6g7scp8rw",
-    ] {
-        tally.refused::<ShortLetters>(line, 32)?;
-    }
-    tally.refused::<LongLetters>(
-        "ms10nameart4p0l39mndf88fdnm93l0p4traehheart4p0l39mndf88fdnm93l0p4traehheart4p0l39mndfrxau7m7x93k9w54",
-        32,
-    )
-}
+// Right checksums, with a letter for the threshold.
+const THRESHOLDS: [&str; 3] = [
+    "ms1fauxxxxxxxxxxxxxxxxxxxxxxxxxxxxxda3kr3s0s2swg",
+    "ms1sfauxsxxxxxxxxxxxxxxxxxxxxxxxxxxmr5wg8uvt8mvj",
+    "ms1lfauxsxxxxxxxxxxxxxxxxxxxxxxxxxxw235qkdw0yyng",
+];
+
+const LONG_THRESHOLDS: [&str; 1] = [
+    "ms1lnameart4p0l39mndf88fdnm93l0p4traehheart4p0l39mndf88fdnm93l0p4traehheart4p0l39mndf0vmwk2c8nsy5v47",
+];
+
+// Right checksums, with an index other than s of a secret that is not shared.
+const INDICES: [&str; 3] = [
+    "ms10fauxxxxxxxxxxxxxxxxxxxxxxxxxxxx0z26tfn0ulw3p",
+    "ms10fauxqxxxxxxxxxxxxxxxxxxxxxxxxxx9a62wpqp4e5vz",
+    "ms10fauxcxxxxxxxxxxxxxxxxxxxxxxxxxxy6gc6g7scp8rw",
+];
+
+const LONG_INDICES: [&str; 1] = [
+    "ms10nameart4p0l39mndf88fdnm93l0p4traehheart4p0l39mndf88fdnm93l0p4traehheart4p0l39mndfrxau7m7x93k9w54",
+];

@@ -1,12 +1,10 @@
 // The seeds of BIP-93: a line is accepted, and its payload decodes to the seed.
-use crate::symbols::{FILL, bytes, numbers, wrote};
-use crate::tally::{Tally, Value};
+use crate::symbols::numbers;
+use crate::tally::Tally;
 use codes::Line;
 use kinds::{ByteKind, LongLetters, ShortLetters};
-use std::alloc::{AllocError, Global};
 
-pub fn compare(heap: Global) -> anyhow::Result<Tally> {
-    let mut tally = Tally::new(heap, "seeds");
+pub fn compare(tally: &mut Tally<'_>) -> anyhow::Result<()> {
     tally.seed::<ShortLetters>(
         "ms10testsxxxxxxxxxxxxxxxxxxxxxxxxxx4nzvca9cmczlw",
         "318c6318c6318c6318c6318c6318c631",
@@ -28,8 +26,7 @@ pub fn compare(heap: Global) -> anyhow::Result<Tally> {
     tally.seed::<LongLetters>(
         "MS100C8VSM32ZXFGUHPCHTLUPZRY9X8GF2TVDW0S3JN54KHCE6MUA7LQPZYGSFJD6AN074RXVCEMLH8WU3TK925ACDEFGHJKLMNPQRSTUVWXY06FHPV80UNDVARHRAK",
         "dc5423251cb87175ff8110c8531d0952d8d73e1194e95b5f19d6f9df7c01111104c9baecdfea8cccc677fb9ddc8aec5553b86e528bcadfdcc201c17c638c47e9",
-    )?;
-    Ok(tally)
+    )
 }
 
 // Lines of one seed: they differ in the four bits that are left in the last payload letter, and these are dropped.
@@ -52,21 +49,17 @@ const LEFT_BITS: [&str; 16] = [
     "ms10leetsllhdmn9m42vcsamx24zrxgs3qrl7ahwvhw4fnzrhve25gvezzyq0pgjxpzx0ysaam",
 ];
 
-impl Tally {
-    fn seed<K: ByteKind>(&mut self, line: &'static str, seed: &str) -> anyhow::Result<()> {
-        let mut out = [FILL; 128];
-        let symbols = payload_numbers::<K>(self.heap, line)?;
-        let seed = bytes(self.heap, seed)?;
-        let answer = codes::decode::<K>(symbols.as_slice(), &mut out);
-        Ok(self.add(Value::Text(line), wrote(answer, &out, seed.as_slice()))?)
-    }
-}
-
-// The numbers of the payload symbols of a line; none of a line that is refused.
-fn payload_numbers<K: ByteKind>(heap: Global, line: &str) -> Result<Vec<u8>, AllocError> {
-    match codes::check::<K>(line.as_bytes()) {
-        Ok(Line::Lone { payload, .. }) => numbers::<K>(heap, payload.text),
-        Ok(Line::Share { payload, .. }) => numbers::<K>(heap, payload.text),
-        Err(_) => Ok(Vec::new(heap)),
+impl Tally<'_> {
+    fn seed<K: ByteKind>(&mut self, line: &str, seed: &str) -> anyhow::Result<()> {
+        let seed = hex::decode(self.heap, seed)?;
+        let Ok(Line::Lone { payload, .. } | Line::Share { payload, .. }) = codes::check::<K>(
+            line.as_bytes(),
+        ) else {
+            return self.add(line, false);
+        };
+        let payload = numbers::<K>(self.heap, payload.text)?;
+        self.call(line, 128, Ok(seed.as_slice()), |out| {
+            codes::decode::<K>(payload.as_slice(), out)
+        })
     }
 }

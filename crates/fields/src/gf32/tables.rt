@@ -1,11 +1,12 @@
-ghost use Rattle.std.specs.Prelude.{◌≡◌, ◌<◌};
+ghost use Rattle.std.specs.Prelude.{◌≡◌};
 ghost use Rattle.fields.specs.Gf32.{product};
 
-pub(crate) fn product(x: u8, y: u8) -> u8
-    requires { (x < 32) × (y < 32) }
-    ensures { result ≡ product x y }
+use crate::below::Below;
+
+pub(crate) fn product(x: Below<32>, y: Below<32>) -> u8
+    ensures { result ≡ product x.n y.n }
 {
-    PRODUCTS[x as usize * 32 + y as usize]
+    PRODUCTS[x.n as usize * 32 + y.n as usize]
 }
 
 // A row for each x, with the product of x and y in column y.

@@ -1,21 +1,19 @@
-use Rattle.std.proofs.Common.{ap, ◌∙◌, arith}
-use Rattle.std.proofs.lemmas.List.{take_all}
-use Rattle.kinds.specs.Words.{numbers}
-use Rattle.codes.specs.Division.{remainder}
-use Rattle.codes.proofs.Registers.{pushed, word_length, zero_register}
+use Rattle.std.proofs.Common.{map, replicate, sym, ap, ◌∙◌, ap₂, arith}
+use Rattle.std.proofs.lemmas.List.{get_or-replicate}
+use Rattle.fields.specs.Numbered.{numbered}
+use Rattle.codes.specs.Division.{divided}
+use Rattle.codes.proofs.Registers.{front_numbers, numbered_word, zero_register}
 use Rattle.codes.proofs.division.Register.started.Goals as goal
 
-pub loop-s-init : goal.loop-s-init
-loop-s-init g c = zero_register g.K.Symbol.Field.ops g.met.K.Symbol.Field.lawful g.K.Kind.code g.met.K.Kind.lawful
-
-pub loop-s-preserved : goal.loop-s-preserved
-loop-s-preserved g c =
-    c.shift.ensures _ c.loop-s.invariant
-    ∙ ap (numbers g.K.Symbol.Field.ops)
-    (pushed g.K.Symbol.Field.ops g.met.K.Symbol.Field.lawful g.K.Kind.code g.met.K.Kind.lawful c.start-s-items.result.now g.K.Kind.code.start c.loop-s.s-index c.numbered.result c.start-s-items.ensures (omega arith) c.numbered.ensures)
+pub invariant_of-register : goal.invariant_of-register
+invariant_of-register g c =
+    let laws = g.met.K.Symbol.Field.lawful in
+    front_numbers g.K.Symbol.Field.ops laws g.K.Kind.code (replicate 16 0) g.K.Kind.code.checks (omega (arith, g.met.K.Kind.lawful.few_checks)) (λ k h. (g.K.Symbol.Field.ops.zero, get_or-replicate 16 k 0 0 (omega (arith, g.met.K.Kind.lawful.few_checks)) ∙ sym laws.number_zero))
 
 pub returns : goal.returns
 returns g c =
-    c.loop-s.invariant
-    ∙ ap (λ w. numbers g.K.Symbol.Field.ops (remainder g.K.Symbol.Field.ops g.K.Kind.code.generator w))
-    (take_all c.loop-s.s-index g.K.Kind.code.start (omega (arith, word_length g.K.Symbol.Field.ops c.start-s-items.result.now g.K.Kind.code.start c.start-s-items.ensures)))
+    let F = g.K.Symbol.Field.ops in
+    let laws = g.met.K.Symbol.Field.lawful in
+    let K = g.K.Kind.code in
+    c.shift_all.ensures
+    ∙ ap₂ (divided F K.generator) (zero_register F laws K g.met.K.Kind.lawful) (ap (map (numbered F)) c.start.ensures ∙ numbered_word F laws K.start)

@@ -1,24 +1,27 @@
-use Rattle.std.proofs.Common.{false, ◌∷◌, take, drop, sym, ap, ◌∙◌, subst, arith, rules, true-eqb, false-eqb}
-use Rattle.movkrig.specs.Words.{Run, words}
-use Rattle.movkrig.proofs.Splitting.{some_word, no_word}
-use Rattle.movkrig.proofs.words.WordsIterator.next.Goals as goal
+use Rattle.std.proofs.Common.{◌≡◌, ◌∷◌, ◌<◌, take, drop, length, sym, ap, ◌∙◌, arith, rules, unwrap_or}
 use Rattle.std.proofs.iter.Next.{firm}
+use Rattle.std.specs.List.{position}
+use Rattle.movkrig.specs.Words.{blank, words}
+use Rattle.movkrig.proofs.Splitting.{no_word, first_word, not_empty}
+use Rattle.movkrig.proofs.words.WordsIterator.next.Goals as goal
 
-pub returns-then-is_empty : goal.returns-then-is_empty
-returns-then-is_empty c =
+pub returns-in_err-word_start-clause-steps : goal.returns-in_err-word_start-clause-steps
+returns-in_err-word_start-clause-steps c =
+    let none = no_word c.args.self.now.rest.now (sym c.word_start.ensures ∙ c.in_err-word_start.was) in
+    rw c.from_residual.ensures (none, none)
+
+pub returns : goal.returns
+returns c =
+    let line = c.args.self.now.rest.now in
+    let n = c.in_ok-word_start.field-0 in
+    let m = c.unwrap_or.result in
     let back = c.split_at.ensures.back in
     let cut = c.split_at-2.ensures in
-    let m = c.run_length-2.result in
-    let none = no_word c.run_length.ensures (subst (Run false m) back c.run_length-2.ensures) (omega (arith, cut.front_len, true-eqb _ 0 c.if-is_empty.ensures)) in
-    record { steps = (none.0, ap words (cut.back ∙ ap (drop m) back) ∙ none.1); goes = firm (tt) (λ h. search rules) }
-
-pub returns-else-is_empty : goal.returns-else-is_empty
-returns-else-is_empty c =
-    let back = c.split_at.ensures.back in
-    let cut = c.split_at-2.ensures in
-    let m = c.run_length-2.result in
-    let some = some_word c.run_length.ensures (subst (Run false m) back c.run_length-2.ensures) (omega (arith, cut.front_len, false-eqb _ 0 c.if-is_empty.ensures)) in
+    let begins = sym c.word_start.ensures ∙ c.in_ok-word_start.was in
+    let ends : m ≡ unwrap_or (position blank (drop n line)) (length (drop n line)) =
+    c.unwrap_or.ensures ∙ ap (λ o. unwrap_or o (length c.split_at.result.1.now)) c.word_end.ensures ∙ ap (λ l. unwrap_or (position blank l) (length l)) back in
+    let some : 0 < m = not_empty line n begins m ends in
     record {
-      steps = some ∙ sym (λ i. (cut.front ∙ ap (take m) back) i ∷ words ((cut.back ∙ ap (drop m) back) i));
-      goes = firm ((tt, tt, omega (arith, cut.back_len, cut.front_len, c.split_at.ensures.back_len, false-eqb _ 0 c.if-is_empty.ensures))) (λ h. search rules);
+      steps = first_word line n begins m ends ∙ sym (λ i. (cut.front ∙ ap (take m) back) i ∷ words ((cut.back ∙ ap (drop m) back) i));
+      goes = firm ((tt, tt, omega (arith, cut.back_len, cut.front_len, c.split_at.ensures.back_len))) (λ h. search rules);
     }
