@@ -1,5 +1,5 @@
 -- Buffers that are written from the front: what stands there already, and behind it what stood there before.
-use Rattle.std.proofs.Common.{◌≡◌, ℕ, ◌+◌, ◌<◌, ◌≤◌, List, [], ◌∷◌, ◌++◌, map, length, get_or, take, drop, set, sym, refl, ap, ◌∙◌, ap₂, append_assoc, append-nil, arith}
+use Rattle.std.proofs.Common.{◌≡◌, ℕ, ◌+◌, ◌<◌, ◌≤◌, List, [], ◌∷◌, ◌++◌, map, length, get_or, take, drop, set, sym, ap, ◌∙◌, ap₂, append_assoc, append-nil, add_assoc, arith}
 use Rattle.codes.specs.Reading.{Answer, answered, refused}
 use Rattle.codes.specs.Writing.{Wrote, counted, written}
 use Rattle.std.proofs.lemmas.List.{drop_all, drop_more, length-map, length-take-le, map_more, set_at, take_all}
@@ -11,6 +11,12 @@ put_next l o out at c long below is =
     ∙ set_at l (get_or o at 0) (drop (at + 1) o) c at long
     ∙ sym (append_assoc l (c ∷ []) (drop (at + 1) o))
 
+-- one character more of some, behind what stands before them
+pub text_next : {A : Type 0} (f : A → ℕ) (symbols : List A) (d : A) (before o : List ℕ) (at i : ℕ) → i < length symbols
+    → ((before ++ map f (take i symbols)) ++ (f (get_or symbols i d) ∷ [])) ++ drop (at + i + 1) o ≡ (before ++ map f (take (i + 1) symbols)) ++ drop (at + (i + 1)) o
+text_next f symbols d before o at i below =
+    ap₂ ◌++◌ (append_assoc before (map f (take i symbols)) _ ∙ ap (λ m. before ++ m) (sym (map_more f symbols i d below))) (ap (λ n. drop n o) (add_assoc at i 1))
+
 -- what f gives of some, written over a piece of their length: one more, and all
 module _ {A : Type 0} (f : A → ℕ) (some : List A) (o out : List ℕ) (i : ℕ) (is : out ≡ map f (take i some) ++ drop i o) where
   pub put_more : (d : A) (c : ℕ) → i < length some → i < length o → c ≡ f (get_or some i d) → set out i c ≡ map f (take (i + 1) some) ++ drop (i + 1) o
@@ -21,11 +27,6 @@ module _ {A : Type 0} (f : A → ℕ) (some : List A) (o out : List ℕ) (i : �
   pub put_all : length some ≤ i → length o ≡ length some → out ≡ map f some
   put_all done long =
       is ∙ ap₂ (λ s r. map f s ++ r) (take_all i some done) (drop_all i o (omega arith)) ∙ append-nil (map f some)
-
--- one function after another
-pub map_both : {A B : Type 0} (f : B → ℕ) (h : A → B) (some : List A) → map (λ x. f (h x)) some ≡ map f (map h some)
-map_both f h [] = refl
-map_both f h (x ∷ some) = ap (λ l. f (h x) ∷ l) (map_both f h some)
 
 -- what a writing call leaves, refused and answered
 pub wrote_refused : (a : Answer (List ℕ)) (out : List ℕ) (n : ℕ) → a ≡ refused n → Wrote a out (refused n) out

@@ -8,14 +8,14 @@ use Rattle.codes.specs.Texts.{same_numbers, symbol}
 use Rattle.kinds.specs.Words.{numbers}
 use Rattle.codes.specs.Division.{remainder}
 use Rattle.kinds.proofs.Numbers.{same_words}
-use Rattle.codes.proofs.Scans.{same_decides}
+use Rattle.std.proofs.lemmas.Slice.Eq.{bytes_eq-Decides}
 use Rattle.codes.proofs.Quotients.{remainders}
 
 -- the test for a codeword is what it says, since words with the same numbers are the same
 pub checksum : {E C : Type 0} (F : Operations E) (laws : FieldLaws F) (K : Code E C) → Checksum F K
 checksum F laws K = record {
   division = remainders F laws;
-  test = λ d. let (to, back) = same_decides (numbers F (remainder F K.generator (K.start ++ d))) (numbers F K.target) in (λ e. same_words F laws _ _ (to e), λ e. back (ap (numbers F) e));
+  test = λ d. let (to, back) = bytes_eq-Decides (numbers F (remainder F K.generator (K.start ++ d))) (numbers F K.target) in (λ e. same_words F laws _ _ (to e), λ e. back (ap (numbers F) e));
 }
 
 module _ {E C : Type 0} (F : Operations E) (K : Code E C) (t : List ℕ) where

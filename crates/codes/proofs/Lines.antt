@@ -15,8 +15,9 @@ use Rattle.codes.specs.Writing.{completed, line, line_of}
 use Rattle.codes.proofs.Characters.{symbol_character_lem}
 use Rattle.codes.proofs.Completion.{completed_codeword}
 use Rattle.codes.proofs.Quotients.{length_lessened}
-use Rattle.codes.proofs.Readings.{any_append, is_read, unless_passes}
-use Rattle.codes.proofs.Scans.{same_decides}
+use Rattle.codes.proofs.Readings.{is_read, unless_passes}
+use Rattle.std.proofs.lemmas.List.Folds.{list_any-append}
+use Rattle.std.proofs.lemmas.Slice.Eq.{bytes_eq-Decides}
 
 -- a plain character is no small letter, and its own capital
 plain_small : (c : ℕ) → Plain c → small_letter c ≡ false
@@ -134,8 +135,8 @@ module _ {E C : Type 0} (F : Operations E) (laws : FieldLaws F) {G : Operations 
   pub read_line : (n : ℕ) (d : List E) → length d ≡ 6 + n + K.checks → K.allows n ≡ true → read F K (line F K d) ≡ answered d
   read_line n d long allowed =
       is_read F K t (and_from _ _ (le-leb _ _ (omega (arith, size))) (ap K.allows (omega (arith, size)) ∙ allowed))
-      ((same_decides (map capital (take 3 t)) K.prefix).1 (ap (map capital) (take_at K.prefix cs 3 lawful.prefix_length) ∙ prefix_capital))
-      (ap (all (known K)) (take_rest_of_line ∙ behind) ∙ all_are_known d) (and_left _ _ (any_append small_letter K.prefix cs ∙ or_from _ _ prefix_large (none_small d)))
+      ((bytes_eq-Decides (map capital (take 3 t)) K.prefix).1 (ap (map capital) (take_at K.prefix cs 3 lawful.prefix_length) ∙ prefix_capital))
+      (ap (all (known K)) (take_rest_of_line ∙ behind) ∙ all_are_known d) (and_left _ _ (list_any-append small_letter K.prefix cs ∙ or_from _ _ prefix_large (none_small d)))
       ∙ ap (λ u. answered (map (symbol F K) u)) behind ∙ ap answered (symbols_back d)
     where
       cs : List ℕ
@@ -194,4 +195,4 @@ module _ {E C : Type 0} (F : Operations E) (laws : FieldLaws F) {G : Operations 
   checked_line p proper =
       let d = completed F K (front p) in
       ap (λ a. then a (λ w. unless (is_codeword F K w) 21 (headed F K w))) (read_line (length p.payload) d (length_data p proper.named) proper.allowed)
-      ∙ unless_passes _ 21 _ _ ((same_decides _ _).1 (ap (numbers F) (completed_codeword F laws K lawful (front p)))) (headed_data p proper)
+      ∙ unless_passes _ 21 _ _ ((bytes_eq-Decides _ _).1 (ap (numbers F) (completed_codeword F laws K lawful (front p)))) (headed_data p proper)

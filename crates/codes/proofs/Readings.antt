@@ -1,5 +1,5 @@
 -- Reading test by test.
-use Rattle.std.proofs.Common.{◌≡◌, ℕ, ◌+◌, ◌-◌, ◌≤◌, Bool, true, false, ◌&&◌, ◌||◌, leb, List, [], ◌∷◌, ◌++◌, map, length, get_or, take, drop, sym, refl, ap, ◌∙◌, ap₂, arith, length-drop, take-append-drop}
+use Rattle.std.proofs.Common.{◌≡◌, ℕ, ◌+◌, ◌-◌, ◌≤◌, Bool, true, false, ◌&&◌, ◌||◌, leb, List, map, length, get_or, take, drop, sym, refl, ap, ◌∙◌, ap₂, arith, length-drop, take-append-drop}
 use Rattle.std.proofs.lemmas.List.{take_rest}
 use Rattle.std.proofs.lemmas.Bool.{and_parts, leb-true, not_from_false, not_from_true}
 use Rattle.fields.specs.Field.{Operations}
@@ -8,7 +8,8 @@ use Rattle.codes.specs.Reading.{Answer, answered, refused, unless, fits, frame, 
 use Rattle.codes.specs.Texts.{all, any, both_cases, known, same_numbers, symbol}
 use Rattle.kinds.specs.Characters.{capital, capital_letter, small_letter}
 use Rattle.codes.specs.declared.texts.Cases.{Cases}
-use Rattle.codes.proofs.Scans.{any_next, or_assoc}
+use Rattle.std.proofs.lemmas.List.Folds.{list_any-append}
+use Rattle.codes.proofs.Scans.{any_next}
 
 -- tests that fail and pass
 pub unless_fails : {A : Type 0} (b : Bool) (n : ℕ) (a : Answer A) → b ≡ false → unless b n a ≡ refused n
@@ -17,16 +18,12 @@ unless_fails b n a e = ap (λ t. unless t n a) e
 pub unless_passes : {A : Type 0} (b : Bool) (n : ℕ) (a c : Answer A) → b ≡ true → a ≡ c → unless b n a ≡ c
 unless_passes b n a c e d = ap (λ t. unless t n a) e ∙ d
 
-pub any_append : (f : ℕ → Bool) (us vs : List ℕ) → any f (us ++ vs) ≡ (any f us || any f vs)
-any_append f [] vs = refl
-any_append f (u ∷ us) vs = ap (λ b. f u || b) (any_append f us vs) ∙ sym (or_assoc (f u) (any f us) (any f vs))
-
 -- three characters one by one, and then the rest
 any_in_two_parts : (f : ℕ → Bool) (t : List ℕ) → 3 ≤ length t → (s₀ s₁ s₂ s₃ s : Bool) → s₀ ≡ false → s₁ ≡ (s₀ || f (get_or t 0 0)) → s₂ ≡ (s₁ || f (get_or t 1 0)) → s₃ ≡ (s₂ || f (get_or t 2 0))
     → s ≡ (s₃ || any f (take (length t - 3) (drop 3 t))) → s ≡ any f t
 any_in_two_parts f t long s₀ s₁ s₂ s₃ s e₀ e₁ e₂ e₃ e =
     e ∙ ap₂ ◌||◌ (any_next f t 2 false s₂ s₃ (omega arith) (any_next f t 1 false s₁ s₂ (omega arith) (any_next f t 0 false s₀ s₁ (omega arith) e₀ e₁) e₂) e₃) (ap (any f) (take_rest t 3))
-    ∙ sym (any_append f (take 3 t) (drop 3 t)) ∙ ap (any f) (take-append-drop 3 t)
+    ∙ sym (list_any-append f (take 3 t) (drop 3 t)) ∙ ap (any f) (take-append-drop 3 t)
 
 -- the cases of letters after one character more
 abbrev After : Cases → ℕ → Cases → Type 0

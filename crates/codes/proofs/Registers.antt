@@ -5,7 +5,7 @@ use Rattle.std.proofs.lemmas.List.{ext_get_or, length-map, get_or-set_other, get
 use Rattle.std.proofs.lemmas.Bool.{and_parts, cond-true, lt-ltb, ltb-true}
 use Rattle.fields.specs.Field.{Operations, FieldLaws, minus}
 use Rattle.fields.specs.Numbered.{numbered}
-use Rattle.fields.specs.Ring.{element_number}
+use Rattle.fields.specs.Ring.{element_number, one_times}
 use Rattle.kinds.specs.Code.{Code, Lawful}
 use Rattle.kinds.specs.Words.{numbers}
 use Rattle.codes.specs.Division.{less, lessened, shifted, divided, remainder}
@@ -192,3 +192,15 @@ module _ {E C : Type 0} (F : Operations E) (laws : FieldLaws F) {G : Operations 
       entry : (row : List ℕ) → length row ≡ 16 → (k : ℕ) → k < K.checks → get_or (word row) k F.zero ≡ numbered F (get_or row k 0)
       entry row e k h =
           get_or-map (numbered F) (take K.checks row) k 0 F.zero (omega (arith, h, length-take-le K.checks row (omega (arith, lawful.few_checks, e)))) ∙ ap (numbered F) (get_or-take K.checks row k 0 h)
+
+  -- a check symbol, from the numbers of the target and of the register
+  pub check_symbol_lem : (bytes symbols : List ℕ) (j : ℕ) (one : E) → one ≡ F.one → bytes ≡ numbers F K.target → length symbols ≡ 16 → j < K.checks → (w : List E) → take K.checks symbols ≡ numbers F w
+      → F.number (minus F (numbered F (get_or bytes j 0)) (F.times one (numbered F (get_or symbols j 0)))) ≡ F.number (get_or (lessened F K.target w) j F.zero)
+  check_symbol_lem bytes symbols j one is_one given long below w holds =
+      ap F.number
+      (ap₂ (minus F) (numbered_at F laws bytes K.target j given (omega (arith, lawful.target_length)))
+      (ap₂ F.times is_one (ap (numbered F) (sym (get_or-take K.checks symbols j 0 below)) ∙ numbered_at F laws (take K.checks symbols) w j holds (omega (arith, size))) ∙ one_times F laws _)
+      ∙ sym (lessened_at F laws K.target w j (omega (arith, lawful.target_length)) (omega (arith, size))))
+    where
+      size : length w ≡ K.checks
+      size = sym (word_length F (take K.checks symbols) w holds) ∙ length-take-le K.checks symbols (omega (arith, lawful.few_checks, long))

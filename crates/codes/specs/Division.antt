@@ -1,7 +1,6 @@
 -- The long division of words of symbols, written highest power first.
-use Rattle.std.specs.Prelude.{◌≡◌, ℕ, List, [], ◌∷◌, ◌++◌, length, replicate}
+use Rattle.std.specs.Prelude.{◌≡◌, List, [], ◌∷◌, ◌++◌, length, replicate}
 use Rattle.fields.specs.Field.{Operations, minus}
-use Rattle.fields.specs.Numbered.{numbered}
 
 module _ {E : Type 0} (F : Operations E) where
   -- entry by entry, one word less the other
@@ -9,10 +8,6 @@ module _ {E : Type 0} (F : Operations E) where
   lessened [] ys = []
   lessened (x ∷ xs) [] = x ∷ xs
   lessened (x ∷ xs) (y ∷ ys) = minus F x y ∷ lessened xs ys
-
-  -- a symbol less t times another, all by their numbers
-  abbrev pub reduced : ℕ → E → ℕ → ℕ
-  reduced r t g = F.number (minus F (numbered F r) (F.times t (numbered F g)))
 
   -- entry by entry, the row less t times the other
   abbrev pub less : E → List E → List E → List E

@@ -20,6 +20,7 @@ pub(crate) struct Bits<'a, const WIDTH: usize> {
     ghost small: { (i : ℕ) → slice_index (iter_rest rest) i < 2 ^ WIDTH },
 }
 
+// Where a reader stands is said by `At` in clauses, and by no model: the numbers that it stands in are the caller's.
 impl<'a, const WIDTH: usize> Bits<'a, WIDTH> {
     ghost use Rattle.std.specs.Prelude.{List, length};
     ghost use Rattle.codes.specs.Bits.{At};
@@ -76,7 +77,7 @@ impl<'a, const WIDTH: usize> Bits<'a, WIDTH> {
     }
 }
 
-// The next number, or zero behind the last.
+// The next number, or zero behind the last: by its definition a row of bits has zeros there.
 fn next_or_zero(numbers: &mut Iter<'_, u8>) -> u8
     ensures value { result ≡ slice_index (iter_rest numbers.old) 0 }
     ensures rest { iter_rest numbers.new ≡ drop 1 (iter_rest numbers.old) }

@@ -12,7 +12,7 @@ use kinds::Kind;
 use std::marker::{Model, PhantomData};
 
 // The remainder of what came in: a word of as many symbols as there are check symbols. The entries are the numbers of its symbols;
-// the one behind them takes the symbol that comes in.
+// the one behind them takes the symbol that comes in. Fixed memory, as the library has no heap.
 #[derive(Drop)]
 pub(crate) struct Register<K: Kind> {
     entries: [u8; 16],
@@ -54,6 +54,7 @@ impl<K: Kind> Register<K> {
         let generator = K::generator();
         let top: K::Symbol = numbered(u16::from(self.entries[0]));
         self.entries[generator.len()] = symbol.number() as u8;
+        // By index: behind `iter_mut` and `zip` a proof knows no entry.
         for (j, g) in generator.iter().enumerate() {
             let next: K::Symbol = numbered(u16::from(self.entries[j + 1]));
             let multiple = top.mul(numbered(u16::from(*g)));
@@ -89,6 +90,7 @@ impl<K: Kind> Register<K> {
     pub(crate) fn complete(&mut self)
         ensures { self.new ≡ lessened K.Symbol.Field.ops K.Kind.code.target self.old }
     {
+        // By index: behind `iter_mut` and `zip` a proof knows no entry.
         for (j, t) in K::target().iter().enumerate() {
             let target: K::Symbol = numbered(u16::from(*t));
             self.entries[j] = minus(target, numbered(u16::from(self.entries[j]))).number() as u8;

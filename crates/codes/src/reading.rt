@@ -29,6 +29,7 @@ fn has_length<K: Kind>(n: usize) -> bool
 }
 
 // Whether a text begins with the prefix, in either case.
+// By hand: the library's comparison without case speaks of small letters, and the definition of capitals.
 fn has_prefix<K: Kind>(text: &[u8]) -> bool
     ensures { result ≡ same_numbers (map capital (take 3 text.now)) K.Kind.code.prefix }
 {
@@ -57,6 +58,7 @@ fn scanned<K: Kind>(seen: Cases, text: &[u8]) -> Option<Scan<'_, K>>
 {
     let mut cases = seen;
     let mut register = Register::started();
+    // A `try_fold` over both would be no plainer: its closure hands on a pair.
     for c in text {
         register.shift(symbol::<K>(*c)?);
         cases = cases.and(*c);

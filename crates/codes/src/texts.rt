@@ -22,14 +22,16 @@ pub(crate) struct Cases {
 
 impl Cases {
     pub(crate) fn none() -> Cases
-        ensures { (result.small ≡ false) × (result.capitals ≡ false) }
+        ensures small { result.small ≡ false }
+        ensures capitals { result.capitals ≡ false }
     {
         Cases::default()
     }
 
     // The same after one more character.
     pub(crate) fn and(self, c: u8) -> Cases
-        ensures { (result.small ≡ (self.small || small_letter c)) × (result.capitals ≡ (self.capitals || capital_letter c)) }
+        ensures small { result.small ≡ (self.small || small_letter c) }
+        ensures capitals { result.capitals ≡ (self.capitals || capital_letter c) }
     {
         Cases {
             small: self.small || c.is_ascii_lowercase(),
@@ -45,6 +47,7 @@ impl Cases {
 }
 
 // The place of a character in the alphabet, in either case; q for one that has none.
+// No `Option`: it is a byte of a table, and `element` says of q that there is none.
 pub(crate) fn place_of<K: Kind>(c: u8) -> u8
     ensures { result ≡ place K.Kind.code.alphabet (capital c) }
 {

@@ -16,7 +16,7 @@ pub(crate) fn are_numbers<K: Kind>(symbols: &[u8]) -> bool
     symbols.iter().all(|n| u16::from(*n) < K::Symbol::order())
 }
 
-// The character of a symbol.
+// The character of a symbol. It cannot fail, as `symbol_character` of any number can.
 fn character<K: Kind>(symbol: K::Symbol) -> u8
     ensures { result ≡ character K.Symbol.Field.ops K.Kind.code symbol }
 {
@@ -28,6 +28,7 @@ fn write_symbols<K: Kind>(numbers: &[u8], piece: &mut [u8])
     requires { length piece.old ≡ length numbers.now }
     ensures { piece.new ≡ map (character K.Symbol.Field.ops K.Kind.code) (map (numbered K.Symbol.Field.ops) numbers.now) }
 {
+    // By index: behind `iter_mut` and `zip` a proof knows no entry.
     for (i, n) in numbers.iter().enumerate() {
         piece[i] = character::<K>(numbered(u16::from(*n)));
     }

@@ -34,13 +34,19 @@ letters_lawful : (parts : Parts) → SumTested gf32 gf1024 (letters_code parts) 
 letters_lawful parts =
     lawful gf32 gf1024 (letters_code parts) parts.longest gf32_laws gf1024_laws (embeds gf32 gf32_laws gf32_u gf32_v) (letters_longest parts) (letters_text parts)
 
-pub short_lawful : Lawful gf32 gf1024 short_letters
+short_sum : SumTested gf32 gf1024 short_letters short_parts.longest
 unfolding times_a product
-short_lawful = letters_lawful short_parts (record { few_checks = lit≤ tt; generator_length = refl; target_length = refl; roots = refl; base_nonzero = refl; no_one = refl; short = lit≤ tt })
+short_sum = record { few_checks = lit≤ tt; generator_length = refl; target_length = refl; roots = refl; base_nonzero = refl; no_one = refl; short = lit≤ tt }
+
+pub short_lawful : Lawful gf32 gf1024 short_letters
+short_lawful = letters_lawful short_parts short_sum
+
+long_sum : SumTested gf32 gf1024 long_letters long_parts.longest
+unfolding times_a product
+long_sum = record { few_checks = lit≤ tt; generator_length = refl; target_length = refl; roots = refl; base_nonzero = refl; no_one = refl; short = lit≤ tt }
 
 pub long_lawful : Lawful gf32 gf1024 long_letters
-unfolding times_a product
-long_lawful = letters_lawful long_parts (record { few_checks = lit≤ tt; generator_length = refl; target_length = refl; roots = refl; base_nonzero = refl; no_one = refl; short = lit≤ tt })
+long_lawful = letters_lawful long_parts long_sum
 
 -- the digits
 
@@ -55,7 +61,9 @@ digits_text = record {
   thresholds = refl;
 }
 
+digits_sum : SumTested gf11 gf121 digits 40
+digits_sum = record { few_checks = lit≤ tt; generator_length = refl; target_length = refl; roots = refl; base_nonzero = refl; no_one = refl; short = lit≤ tt }
+
 pub digits_lawful : Lawful gf11 gf121 digits
 digits_lawful =
-    lawful gf11 gf121 digits 40 gf11_laws gf121_laws (embeds gf11 gf11_laws gf11_u gf11_v) (λ n e. (within 4 40 n e).1) digits_text
-    (record { few_checks = lit≤ tt; generator_length = refl; target_length = refl; roots = refl; base_nonzero = refl; no_one = refl; short = lit≤ tt })
+    lawful gf11 gf121 digits 40 gf11_laws gf121_laws (embeds gf11 gf11_laws gf11_u gf11_v) (λ n e. (within 4 40 n e).1) digits_text digits_sum

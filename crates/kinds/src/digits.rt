@@ -1,5 +1,5 @@
 // The kind over the ten digits and X.
-ghost use Rattle.std.specs.Prelude.{◌≡◌};
+ghost use Rattle.std.specs.Prelude.{refl};
 ghost use Rattle.kinds.specs.Digits.{digits};
 ghost use Rattle.kinds.specs.Three.{digits_lawful};
 
@@ -14,7 +14,25 @@ impl Kind for Digits {
 
     type Correction = Pair<Gf11>;
 
+    const CHECK_COUNT: usize = 14;
+
+    const FIRST_EXPONENT: usize = 6;
+
+    const SECRET_INDEX: u8 = 0;
+
+    ghost CHECK_COUNT = { 14 };
+
+    ghost FIRST_EXPONENT = { 6 };
+
+    ghost SECRET_INDEX = { 0 };
+
     ghost code = { digits };
+
+    ghost checks_are = { refl };
+
+    ghost first_is = { refl };
+
+    ghost secret_is = { refl };
 
     ghost lawful = { digits_lawful };
 
@@ -30,10 +48,6 @@ impl Kind for Digits {
         &SYMBOLS
     }
 
-    fn secret_number() -> u8 {
-        0
-    }
-
     fn start<'a>() -> &'a [u8] {
         &[1]
     }
@@ -46,20 +60,12 @@ impl Kind for Digits {
         &[0; 14]
     }
 
-    fn check_symbols() -> usize {
-        14
-    }
-
     fn embed(symbol: Gf11) -> Pair<Gf11> {
         embedded(symbol)
     }
 
     fn base() -> Pair<Gf11> {
         numbered(23)
-    }
-
-    fn first_power() -> usize {
-        6
     }
 
     fn allows(n: usize) -> bool {

@@ -1,5 +1,5 @@
 // The kinds over the 32 letters and digits, by the parts of their codes.
-ghost use Rattle.std.specs.Prelude.{◌≡◌};
+ghost use Rattle.std.specs.Prelude.{◌≡◌, refl};
 ghost use Rattle.kinds.specs.Letters.{letters_bytes, letters_code, whole};
 
 use crate::bytes::ByteKind;
@@ -18,7 +18,25 @@ impl<C: LetterCode> Kind for Letters<C> {
 
     type Correction = Pair<Gf32>;
 
+    const CHECK_COUNT: usize = C::CHECK_COUNT;
+
+    const FIRST_EXPONENT: usize = C::FIRST_EXPONENT;
+
+    const SECRET_INDEX: u8 = 16;
+
+    ghost CHECK_COUNT = { C.CHECK_COUNT };
+
+    ghost FIRST_EXPONENT = { C.FIRST_EXPONENT };
+
+    ghost SECRET_INDEX = { 16 };
+
     ghost code = { letters_code C.parts };
+
+    ghost checks_are = { C.checks_are };
+
+    ghost first_is = { C.first_is };
+
+    ghost secret_is = { refl };
 
     ghost lawful = { C.lawful };
 
@@ -34,10 +52,6 @@ impl<C: LetterCode> Kind for Letters<C> {
         &SYMBOLS
     }
 
-    fn secret_number() -> u8 {
-        16
-    }
-
     fn start<'a>() -> &'a [u8] {
         &[1, 3, 3, 0, 13, 19]
     }
@@ -50,20 +64,12 @@ impl<C: LetterCode> Kind for Letters<C> {
         C::parts().target
     }
 
-    fn check_symbols() -> usize {
-        C::parts().generator.len()
-    }
-
     fn embed(symbol: Gf32) -> Pair<Gf32> {
         embedded(symbol)
     }
 
     fn base() -> Pair<Gf32> {
         C::parts().base
-    }
-
-    fn first_power() -> usize {
-        C::parts().first_power
     }
 
     fn allows(n: usize) -> bool {

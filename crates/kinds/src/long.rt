@@ -1,4 +1,5 @@
 // The long code of BIP-93, for payloads of 76 to 103 symbols.
+ghost use Rattle.std.specs.Prelude.{refl};
 ghost use Rattle.kinds.specs.Letters.{long_parts};
 ghost use Rattle.kinds.specs.Three.{long_lawful};
 ghost use Rattle.kinds.specs.Wholes.{long_whole};
@@ -12,7 +13,19 @@ pub type LongLetters = Letters<Long>;
 pub struct Long;
 
 impl LetterCode for Long {
+    const CHECK_COUNT: usize = 15;
+
+    const FIRST_EXPONENT: usize = 1019;
+
+    ghost CHECK_COUNT = { 15 };
+
+    ghost FIRST_EXPONENT = { 1019 };
+
     ghost parts = { long_parts };
+
+    ghost checks_are = { refl };
+
+    ghost first_is = { refl };
 
     ghost lawful = { long_lawful };
 
@@ -24,7 +37,6 @@ impl LetterCode for Long {
             // SECRETSHARE32EX
             target: &[16, 25, 24, 3, 25, 11, 16, 23, 29, 3, 25, 17, 10, 25, 6],
             base: numbered(217),
-            first_power: 1019,
             shortest: 76,
             longest: 103,
             fewest_bytes: 47,

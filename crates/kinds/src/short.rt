@@ -1,4 +1,5 @@
 // The short code of BIP-93, for payloads of 26 to 74 symbols.
+ghost use Rattle.std.specs.Prelude.{refl};
 ghost use Rattle.kinds.specs.Letters.{short_parts};
 ghost use Rattle.kinds.specs.Three.{short_lawful};
 ghost use Rattle.kinds.specs.Wholes.{short_whole};
@@ -12,7 +13,19 @@ pub type ShortLetters = Letters<Short>;
 pub struct Short;
 
 impl LetterCode for Short {
+    const CHECK_COUNT: usize = 13;
+
+    const FIRST_EXPONENT: usize = 77;
+
+    ghost CHECK_COUNT = { 13 };
+
+    ghost FIRST_EXPONENT = { 77 };
+
     ghost parts = { short_parts };
+
+    ghost checks_are = { refl };
+
+    ghost first_is = { refl };
 
     ghost lawful = { short_lawful };
 
@@ -24,7 +37,6 @@ impl LetterCode for Short {
             // SECRETSHARE32
             target: &[16, 25, 24, 3, 25, 11, 16, 23, 29, 3, 25, 17, 10],
             base: numbered(256),
-            first_power: 77,
             shortest: 26,
             longest: 74,
             fewest_bytes: 16,

@@ -1,7 +1,6 @@
 // What the program is asked to do by its arguments.
 use std::env::Args;
-use std::error::Error;
-use std::fmt;
+use thiserror::Error;
 
 #[derive(Clone, Copy, PartialEq, Eq, Debug)]
 pub enum Request {
@@ -10,19 +9,12 @@ pub enum Request {
     Help,
 }
 
-#[derive(Clone, Copy, PartialEq, Eq, Debug)]
+#[derive(Clone, Copy, PartialEq, Eq, Debug, Error)]
+#[error("unknown argument: expected none, or --help")]
 pub struct UnknownArgument;
 
-impl fmt::Display for UnknownArgument {
-    fn fmt<W: fmt::Write>(&self, f: &mut fmt::Formatter<W>) -> fmt::Result {
-        f.write_str("unknown argument: expected none, or --help")
-    }
-}
-
-impl Error for UnknownArgument {}
-
 impl Request {
-    // The first argument is the program's own name.
+    // The first argument is the program's own name. No `TryFrom`: arguments are read from the process, and no value is converted.
     pub fn read(args: Args) -> Result<Request, UnknownArgument> {
         let mut words = args.skip(1);
         let Some(word) = words.next() else {

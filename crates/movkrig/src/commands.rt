@@ -57,7 +57,7 @@ impl<'a> Command<'a> {
         }
     }
 
-    // The command with this name and the words behind it.
+    // The command with this name and the words behind it. Four names and four lines: a table of functions is no plainer.
     fn named(operands: Operands<'a>) -> Result<Command<'a>, CommandError<'a>>
         ensures { Reads shown_order result [] (take_order operands.entry.command (ahead operands.entry)) }
     {

@@ -19,6 +19,7 @@ pub enum Failure<'a> {
     OutOfMemory(AllocError),
 }
 
+// By hand: the `From` of a derive has no contract, and `reply` needs what each gives.
 impl<'a> From<CommandError<'a>> for Failure<'a> {
     ghost from_gives = { λ e f. f ≡ failure.Command e };
 
@@ -43,6 +44,7 @@ impl From<AllocError> for Failure<'_> {
     }
 }
 
+// By hand: no derive calls `number`.
 impl fmt::Display for Failure<'_> {
     fn fmt<W: fmt::Write>(&self, f: &mut fmt::Formatter<W>) -> fmt::Result {
         match self {
@@ -89,6 +91,7 @@ pub enum CommandError<'a> {
     },
 }
 
+// By hand: words of the input go through `Printable`.
 impl fmt::Display for CommandError<'_> {
     fn fmt<W: fmt::Write>(&self, f: &mut fmt::Formatter<W>) -> fmt::Result {
         match *self {

@@ -20,7 +20,7 @@ pub fn reply(heap: Global, line: &[u8]) -> Result<Option<Answer<'_>>, Failure<'_
     }
 }
 
-// Each name stands for one code of the library.
+// Each name stands for one code of the library: a code is a type, and no table holds types.
 fn execute(heap: Global, command: Command<'_>) -> Result<Answer<'_>, Failure<'_>>
     ensures { Executes result (of_order (shown_order command.entry)) }
 {

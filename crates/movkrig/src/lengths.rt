@@ -12,6 +12,7 @@ pub fn read_length(word: &[u8]) -> Option<usize>
     ensures { result ≡ length_of word.now }
 {
     let mut length = 0;
+    // A `try_fold` was tried, and its goal stayed open.
     for c in word {
         length = with_digit(length, *c)?;
     }

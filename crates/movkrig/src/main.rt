@@ -25,6 +25,7 @@ use std::io::{BufRead, BufReader};
 use std::process::ExitCode;
 
 // An `Err` of `main` would be printed as `Error: ..`, and this program's word is `error: ..`.
+// The program `vectors` has the same lines: a library for them would be no plainer.
 fn main(rt: HostRuntime) -> ExitCode {
     match run(&rt) {
         Ok(()) => ExitCode::SUCCESS,

@@ -55,7 +55,7 @@ impl KindName {
     // What an error says was expected in the place of a kind.
     pub const EXPECTED: &'static str = "short, long or digits";
 
-    // The same as a kind whose payloads hold bytes; digits hold none.
+    // The same as a kind whose payloads hold bytes; digits hold none. The error of a `TryFrom` would say no more than `None`.
     pub fn with_bytes(self) -> Option<ByteKindName>
         ensures { result ≡ byte_kind self }
     {

@@ -8,7 +8,7 @@ use std::fmt::Write;
 #[derive(Clone, Copy)]
 pub struct Printable<'a>(pub &'a [u8]);
 
-// The character for a byte; a question mark for one that is not printable ASCII.
+// The character for a byte; a question mark for one that is not printable ASCII, which no method of the library gives.
 fn shown(b: u8) -> char
     ensures { result ≡ printable b }
 {

@@ -5,7 +5,7 @@ ghost use Rattle.movkrig.specs.Symbols.{characters_of, numbers_of};
 use kinds::Kind;
 use std::alloc::{AllocError, Global};
 
-// No symbol has this number: the library refuses it.
+// No symbol has this number. It stands for none, since the library counts symbols first, and then refuses this one.
 const NO_SYMBOL: u8 = 255;
 
 // The number of each character's symbol.
@@ -17,7 +17,7 @@ pub fn numbers<K: Kind>(heap: Global, text: &[u8]) -> Result<Vec<u8>, AllocError
         .collect(heap)
 }
 
-// The character of each symbol.
+// The character of each symbol; the definition has `?` for a number that is none, though the library gives none such.
 pub fn characters<K: Kind>(heap: Global, numbers: &[u8]) -> Result<Vec<u8>, AllocError>
     ensures { IfOk result (λ v. v.items ≡ characters_of K.Kind.code numbers.now) }
 {

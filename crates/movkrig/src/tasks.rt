@@ -46,7 +46,8 @@ pub fn of_bytes<K: ByteKind>(heap: Global, task: ByteTask<'_>) -> Result<Answer<
     }
 }
 
-// What a call writes at the front of a buffer of a length; it answers how much that is.
+// What a call writes at the front of a buffer of a length; it answers how much that is. Heap and length stand beside other
+// words in each caller: a struct of the two would be made to be taken apart.
 fn buffered<'e, F: FnOnce(&mut [u8]) -> Result<usize, Refusal>>(
     heap: Global,
     length: usize,

@@ -11,7 +11,7 @@ fn is_blank(b: u8) -> bool
     b == b' ' || b == b'\t'
 }
 
-// Where the first word begins.
+// Where the first word begins. The next differs in a `!`: one function for both would have a flag.
 fn word_start(line: &[u8]) -> Option<usize>
     ensures { result ≡ position (λ b. not (blank b)) line.now }
 {

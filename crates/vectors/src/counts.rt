@@ -36,6 +36,7 @@ const DIGITS: Counts = Counts {
 impl Tally<'_> {
     fn counts<K: Kind>(&mut self, counts: Counts) -> anyhow::Result<()> {
         let of = counts.of;
+        // Two loops: one for both would need a flag.
         for n in counts.allowed {
             self.add(format_args!("{n} {of}"), K::allows(*n))?;
         }

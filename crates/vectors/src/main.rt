@@ -18,6 +18,7 @@ use std::process::ExitCode;
 use tally::Tally;
 
 // An error is printed here and ends the process with status 1; a main that returned it would print it once more.
+// The program `movkrig` has the same lines: a library for them would be no plainer.
 fn main(rt: HostRuntime) -> ExitCode {
     match run(&rt) {
         Ok(()) => ExitCode::SUCCESS,

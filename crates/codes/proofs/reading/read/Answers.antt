@@ -25,7 +25,7 @@ returns-then-both g c =
     let long : 3 ≤ length t = omega (arith, long_enough g.K.Symbol.Field.ops K t fit) in
     let scan = c.in-Some.ensures in
     refused_14 g.K.Symbol.Field.ops K t fit (sym c.has_prefix.ensures ∙ c.if-not-has_prefix.false) (ap (all (known K)) (sym scan.2) ∙ c.in-Some.scan.word.alphabet)
-    (sym (mixed_is t long c.none.result c.and.result c.and-2.result c.and-seen.result c.in-Some.scan.cases c.none.ensures c.and.ensures c.and-2.ensures c.and-seen.ensures scan.0 scan.1 c.both.result c.both.ensures) ∙ c.if-both.true)
+    (sym (mixed_is t long c.none.result c.and.result c.and-2.result c.and-seen.result c.in-Some.scan.cases (c.none.ensures.small, c.none.ensures.capitals) (c.and.ensures.small, c.and.ensures.capitals) (c.and-2.ensures.small, c.and-2.ensures.capitals) (c.and-seen.ensures.small, c.and-seen.ensures.capitals) scan.0 scan.1 c.both.result c.both.ensures) ∙ c.if-both.true)
 
 pub returns : goal.returns
 returns g c =
@@ -36,7 +36,7 @@ returns g c =
     let scan = c.in-Some.ensures in
     let is_data = scan.2 ∙ take_rest t 3 in (
       is_read g.K.Symbol.Field.ops K t fit (sym c.has_prefix.ensures ∙ c.if-not-has_prefix.false) (ap (all (known K)) (sym scan.2) ∙ c.in-Some.scan.word.alphabet)
-          (sym (mixed_is t long c.none.result c.and.result c.and-2.result c.and-seen.result c.in-Some.scan.cases c.none.ensures c.and.ensures c.and-2.ensures c.and-seen.ensures scan.0 scan.1 c.both.result c.both.ensures) ∙ c.if-both.false)
+          (sym (mixed_is t long c.none.result c.and.result c.and-2.result c.and-seen.result c.in-Some.scan.cases (c.none.ensures.small, c.none.ensures.capitals) (c.and.ensures.small, c.and.ensures.capitals) (c.and-2.ensures.small, c.and-2.ensures.capitals) (c.and-seen.ensures.small, c.and-seen.ensures.capitals) scan.0 scan.1 c.both.result c.both.ensures) ∙ c.if-both.false)
           ∙ ap (λ u. answered (map (symbol g.K.Symbol.Field.ops K) u)) (sym is_data),
       is_data,
     )

@@ -16,8 +16,8 @@ loop-c-preserved g c =
     let i = c.loop-c.c-index in
     let below = c.loop-c-test.true in (
       all_next (known K) t i below c.loop-c.invariant.0 c.in_ok-symbol.ensures.0,
-      any_next small_letter t i c.args.seen.small c.loop-c.cases.small c.and-cases.result.small below c.loop-c.invariant.1 c.and-cases.ensures.0,
-      any_next capital_letter t i c.args.seen.capitals c.loop-c.cases.capitals c.and-cases.result.capitals below c.loop-c.invariant.2 c.and-cases.ensures.1,
+      any_next small_letter t i c.args.seen.small c.loop-c.cases.small c.and-cases.result.small below c.loop-c.invariant.1 c.and-cases.ensures.small,
+      any_next capital_letter t i c.args.seen.capitals c.loop-c.cases.capitals c.and-cases.result.capitals below c.loop-c.invariant.2 c.and-cases.ensures.capitals,
       c.shift.ensures
           ∙ ap₂ (shifted F K.generator) c.loop-c.invariant.3 c.in_ok-symbol.ensures.1
           ∙ divided_next F g.met.K.Symbol.Field.lawful K.generator _ (K.start ++ map f (take i t)) (K.start ++ map f (take (i + 1) t)) (f (get_or t i 0)) (ap (λ w. K.start ++ w) (map_more f t i 0 below) ∙ sym (append_assoc K.start (map f (take i t)) _)),

@@ -1,7 +1,8 @@
-use Rattle.std.proofs.Common.{ap, ◌∙◌, rules}
+use Rattle.std.proofs.Common.{sym, ap, ◌∙◌, rules}
+use Rattle.std.proofs.lemmas.Simd.{map-map}
 use Rattle.fields.specs.Numbered.{numbered}
 use Rattle.codes.specs.Texts.{character}
-use Rattle.codes.proofs.Buffers.{map_both, put_all, put_more}
+use Rattle.codes.proofs.Buffers.{put_all, put_more}
 use Rattle.codes.proofs.writing.write_symbols.Goals as goal
 
 pub loop-i-preserved : goal.loop-i-preserved
@@ -16,4 +17,4 @@ returns g c =
     let F = g.K.Symbol.Field.ops in
     let K = g.K.Kind.code in
     put_all (λ n. character F K (numbered F n)) c.args.numbers.now c.args.piece.now c.loop-i.piece c.loop-i.i c.loop-i.invariant c.loop-i-test.false c.requires
-    ∙ map_both (character F K) (numbered F) c.args.numbers.now
+    ∙ sym (map-map (character F K) (numbered F) c.args.numbers.now)
