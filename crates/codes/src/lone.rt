@@ -7,17 +7,13 @@ use crate::refusals::Refusal;
 use crate::writing::{are_numbers, write_line};
 use kinds::Kind;
 
-// The same as the numbers of four symbols, if they are.
+// The same four bytes, if they are the numbers of four symbols.
 fn as_identifier<K: Kind>(identifier: &[u8]) -> Option<&[u8; 4]>
     ensures { MatchOption result ((length identifier.now == 4 && all_numbers K.Symbol.Field.ops K.Kind.code identifier.now) ≡ false) (λ i.
         ((length identifier.now == 4 && all_numbers K.Symbol.Field.ops K.Kind.code identifier.now) ≡ true) × (i.now ≡ identifier.now)) }
 {
     let four: &[u8; 4] = identifier.try_into().ok()?;
-    if are_numbers::<K>(four) {
-        Some(four)
-    } else {
-        None
-    }
+    are_numbers::<K>(four).then_some(four)
 }
 
 // Writes the line of a secret that is not shared, from the numbers of the symbols, and answers its length.
