@@ -9,8 +9,9 @@ use crate::parts::LetterCode;
 use fields::{Gf32, Pair};
 use std::marker::PhantomData;
 
+#[derive(Drop, PartialEq, Eq)]
 pub struct Letters<C> {
-    of: PhantomData<C>,
+    pub(crate) of: PhantomData<C>,
 }
 
 impl<C: LetterCode> Kind for Letters<C> {

@@ -7,9 +7,14 @@ ghost use Rattle.kinds.specs.Wholes.{long_whole};
 use crate::letters::Letters;
 use crate::parts::{CodeParts, LetterCode};
 use fields::numbered;
+use std::marker::PhantomData;
 
 pub type LongLetters = Letters<Long>;
 
+// The kind as a value, as `Digits` is one.
+pub const LongLetters: LongLetters = Letters { of: PhantomData };
+
+#[derive(PartialEq, Eq)]
 pub struct Long;
 
 impl LetterCode for Long {

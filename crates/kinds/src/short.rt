@@ -7,9 +7,14 @@ ghost use Rattle.kinds.specs.Wholes.{short_whole};
 use crate::letters::Letters;
 use crate::parts::{CodeParts, LetterCode};
 use fields::numbered;
+use std::marker::PhantomData;
 
 pub type ShortLetters = Letters<Short>;
 
+// The kind as a value, as `Digits` is one.
+pub const ShortLetters: ShortLetters = Letters { of: PhantomData };
+
+#[derive(PartialEq, Eq)]
 pub struct Short;
 
 impl LetterCode for Short {

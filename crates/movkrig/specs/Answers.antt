@@ -1,5 +1,5 @@
 -- What the program answers to a line.
-use Rattle.std.specs.Prelude.{◌≡◌, ℕ, Bool, List, Some, None, Ok, Err, vec_items, Option, Result, MatchResult, Vec, ⊤}
+use Rattle.std.specs.Prelude.{◌≡◌, ℕ, Bool, true, false, List, Some, None, Ok, Err, vec_items, Option, Result, MatchResult, Vec, ⊤}
 use Rattle.std.specs.declared.alloc.Global.{Global}
 use Rattle.fields.specs.Field.{Operations}
 use Rattle.kinds.specs.Code.{Code}
@@ -88,6 +88,17 @@ Executes result reply = MatchResult result (λ answer. shown_answer answer ≡ r
 
 abbrev pub Writes : (List ℕ → Reply) → Result (Vec ℕ Global) Failure → Answer (List ℕ) → Type 0
 Writes show result answer = MatchResult result (λ v. show (vec_items v) ≡ of_writing show answer) (Fails (of_writing show answer))
+
+-- whether memory ran out
+abbrev pub out_of_memory : Failure → Bool
+out_of_memory (Command e) = false
+out_of_memory (Refused e) = false
+out_of_memory (OutOfMemory e) = true
+
+-- checking takes no memory, so there is always enough of it
+abbrev pub EnoughMemory : LineTask → Result Held Failure → Type 0
+EnoughMemory (Check text) result = MatchResult result (λ answer. ⊤) (λ failure. out_of_memory failure ≡ false)
+EnoughMemory (Lone identifier load size) result = ⊤
 
 -- what a task gives under any code
 module _ {E C : Type 0} (F : Operations E) (K : Code E C) where

@@ -5,7 +5,7 @@ ghost use Rattle.std.specs.Fn.{FnOnceReturnsAtMut};
 ghost use Rattle.codes.specs.Bytes.{decode_answer, encode_answer};
 ghost use Rattle.codes.specs.Reading.{Answer as Outcome};
 ghost use Rattle.codes.specs.Writing.{lone_answer};
-ghost use Rattle.movkrig.specs.Answers.{Executes, Reply, Writes, bytes, line, of_byte_task, of_line_task, payload};
+ghost use Rattle.movkrig.specs.Answers.{EnoughMemory, Executes, Reply, Writes, bytes, line, of_byte_task, of_line_task, payload};
 ghost use Rattle.movkrig.specs.Hexadecimal.{hex_bytes};
 ghost use Rattle.movkrig.specs.Symbols.{characters_of, numbers_of};
 ghost use Rattle.movkrig.specs.Writing.{AlwaysWrites};
@@ -20,7 +20,8 @@ use kinds::{ByteKind, Kind};
 use std::alloc::Global;
 
 pub fn of_lines<K: Kind>(heap: Global, task: LineTask<'_>) -> Result<Answer<'_>, Failure<'_>>
-    ensures { Executes result (of_line_task K.Symbol.Field.ops K.Kind.code task.entry) }
+    ensures executes { Executes result (of_line_task K.Symbol.Field.ops K.Kind.code task.entry) }
+    ensures memory { EnoughMemory task.entry result }
 {
     match task {
         LineTask::Check { text } => Ok(Answer::Line(codes::check::<K>(text)?)),

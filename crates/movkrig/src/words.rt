@@ -56,7 +56,12 @@ impl<'a> Iterator for Words<'a> {
     ghost remaining = { λ s. at_most (length s.rest.now) };
 
     fn next(&mut self) -> Option<&'a [u8]> {
-        let (_, rest) = self.rest.split_at(word_start(self.rest)?);
+        let Some(start) = word_start(self.rest) else {
+            // Blanks at the end are looked at once, however often the next word is asked for.
+            self.rest = &[];
+            return None;
+        };
+        let (_, rest) = self.rest.split_at(start);
         let (word, rest) = rest.split_at(word_end(rest).unwrap_or(rest.len()));
         self.rest = rest;
         Some(word)

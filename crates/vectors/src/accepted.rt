@@ -15,7 +15,7 @@ pub fn compare(tally: &mut Tally<'_>) -> anyhow::Result<()> {
 }
 
 // Secrets that are not shared.
-const SHORT: [Lone; 2] = [
+const SHORT: [Lone<'static>; 2] = [
     Lone {
         line: "ms10testsxxxxxxxxxxxxxxxxxxxxxxxxxx4nzvca9cmczlw",
         identifier: "test",
@@ -28,13 +28,13 @@ const SHORT: [Lone; 2] = [
     },
 ];
 
-const LONG: Lone = Lone {
+const LONG: Lone<'static> = Lone {
     line: "MS100C8VSM32ZXFGUHPCHTLUPZRY9X8GF2TVDW0S3JN54KHCE6MUA7LQPZYGSFJD6AN074RXVCEMLH8WU3TK925ACDEFGHJKLMNPQRSTUVWXY06FHPV80UNDVARHRAK",
     identifier: "0C8V",
     payload: "M32ZXFGUHPCHTLUPZRY9X8GF2TVDW0S3JN54KHCE6MUA7LQPZYGSFJD6AN074RXVCEMLH8WU3TK925ACDEFGHJKLMNPQRSTUVWXY06F",
 };
 
-const SHARES: [Share; 10] = [
+const SHARES: [Share<'static>; 10] = [
     // Secrets that are shared: shares with the index s.
     Share {
         line: "MS12NAMES6XQGUZTTXKEQNJSJZV4JV3NZ5K3KWGSPHUH6EVW",

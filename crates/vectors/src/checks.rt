@@ -6,24 +6,24 @@ use kinds::Kind;
 
 // The line of a lone secret, and its parts.
 #[derive(Clone, Copy)]
-pub struct Lone {
-    pub line: &'static str,
-    pub identifier: &'static str,
-    pub payload: &'static str,
+pub struct Lone<'a> {
+    pub line: &'a str,
+    pub identifier: &'a str,
+    pub payload: &'a str,
 }
 
 // The line of a share, and its parts.
 #[derive(Clone, Copy)]
-pub struct Share {
-    pub line: &'static str,
+pub struct Share<'a> {
+    pub line: &'a str,
     pub threshold: u8,
-    pub identifier: &'static str,
-    pub index: &'static str,
-    pub payload: &'static str,
+    pub identifier: &'a str,
+    pub index: &'a str,
+    pub payload: &'a str,
 }
 
 impl Tally<'_> {
-    pub fn lone<K: Kind>(&mut self, lone: Lone) -> anyhow::Result<()> {
+    pub fn lone<K: Kind>(&mut self, lone: Lone<'_>) -> anyhow::Result<()> {
         let parts = Line::Lone {
             identifier: part(4, lone.identifier),
             payload: part(9, lone.payload),
@@ -31,7 +31,7 @@ impl Tally<'_> {
         self.accepted::<K>(lone.line, parts)
     }
 
-    pub fn share<K: Kind>(&mut self, share: Share) -> anyhow::Result<()> {
+    pub fn share<K: Kind>(&mut self, share: Share<'_>) -> anyhow::Result<()> {
         let parts = Line::Share {
             threshold: share.threshold,
             identifier: part(4, share.identifier),
@@ -53,7 +53,7 @@ impl Tally<'_> {
     }
 }
 
-fn part(place: usize, text: &'static str) -> Part<'static> {
+fn part(place: usize, text: &str) -> Part<'_> {
     Part {
         place,
         text: text.as_bytes(),

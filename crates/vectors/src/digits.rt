@@ -17,7 +17,7 @@ pub fn compare(tally: &mut Tally<'_>) -> anyhow::Result<()> {
     refused(tally)
 }
 
-const LONE: [Lone; 4] = [
+const LONE: [Lone<'static>; 4] = [
     Lone {
         line: "NP10184803141592653875269X2127621",
         identifier: "1848",
@@ -40,7 +40,7 @@ const LONE: [Lone; 4] = [
     },
 ];
 
-const SHARES: [Share; 5] = [
+const SHARES: [Share<'static>; 5] = [
     Share {
         line: "NP127X0133141592644431219718465",
         threshold: 2,
@@ -78,7 +78,7 @@ const SHARES: [Share; 5] = [
     },
 ];
 
-const WRITTEN: [Lone; 2] = [
+const WRITTEN: [Lone<'static>; 2] = [
     Lone {
         line: "NP10184803141592653875269X2127621",
         identifier: "1848",

@@ -17,7 +17,7 @@ pub fn compare(tally: &mut Tally<'_>) -> anyhow::Result<()> {
 }
 
 // The lone lines of BIP-93.
-const SHORT: [Lone; 2] = [
+const SHORT: [Lone<'static>; 2] = [
     Lone {
         line: "MS10TESTSXXXXXXXXXXXXXXXXXXXXXXXXXX4NZVCA9CMCZLW",
         identifier: "test",
@@ -30,7 +30,7 @@ const SHORT: [Lone; 2] = [
     },
 ];
 
-const LONG: Lone = Lone {
+const LONG: Lone<'static> = Lone {
     line: "MS100C8VSM32ZXFGUHPCHTLUPZRY9X8GF2TVDW0S3JN54KHCE6MUA7LQPZYGSFJD6AN074RXVCEMLH8WU3TK925ACDEFGHJKLMNPQRSTUVWXY06FHPV80UNDVARHRAK",
     identifier: "0c8v",
     payload: "m32zxfguhpchtlupzry9x8gf2tvdw0s3jn54khce6mua7lqpzygsfjd6an074rxvcemlh8wu3tk925acdefghjklmnpqrstuvwxy06f",
@@ -65,7 +65,7 @@ const LONG_SEED: Seed = Seed {
 };
 
 impl Tally<'_> {
-    pub fn written<K: Kind>(&mut self, lone: Lone) -> anyhow::Result<()> {
+    pub fn written<K: Kind>(&mut self, lone: Lone<'_>) -> anyhow::Result<()> {
         let payload = numbers::<K>(self.heap, lone.payload.as_bytes())?;
         self.write::<K>(lone.line, lone.identifier, payload.as_slice())
     }
