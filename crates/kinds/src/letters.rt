@@ -7,14 +7,8 @@ use crate::embedding::embedded;
 use crate::kind::Kind;
 use crate::parts::LetterCode;
 use fields::{Gf32, Pair};
-use std::marker::PhantomData;
 
-#[derive(Drop, PartialEq, Eq)]
-pub struct Letters<C> {
-    pub(crate) of: PhantomData<C>,
-}
-
-impl<C: LetterCode> Kind for Letters<C> {
+impl<C: LetterCode> Kind for C {
     type Symbol = Gf32;
 
     type Correction = Pair<Gf32>;
@@ -79,7 +73,7 @@ impl<C: LetterCode> Kind for Letters<C> {
     }
 }
 
-impl<C: LetterCode> ByteKind for Letters<C> {
+impl<C: LetterCode> ByteKind for C {
     ghost takes = { letters_bytes C.parts };
 
     ghost whole = { C.whole };

@@ -4,20 +4,12 @@ ghost use Rattle.kinds.specs.Letters.{long_parts};
 ghost use Rattle.kinds.specs.Three.{long_lawful};
 ghost use Rattle.kinds.specs.Wholes.{long_whole};
 
-use crate::letters::Letters;
 use crate::parts::{CodeParts, LetterCode};
 use fields::numbered;
-use std::marker::PhantomData;
 
-pub type LongLetters = Letters<Long>;
+pub struct LongLetters;
 
-// The kind as a value, as `Digits` is one.
-pub const LongLetters: LongLetters = Letters { of: PhantomData };
-
-#[derive(PartialEq, Eq)]
-pub struct Long;
-
-impl LetterCode for Long {
+impl LetterCode for LongLetters {
     const CHECK_COUNT: usize = 15;
 
     const FIRST_EXPONENT: usize = 1019;

@@ -4,20 +4,12 @@ ghost use Rattle.kinds.specs.Letters.{short_parts};
 ghost use Rattle.kinds.specs.Three.{short_lawful};
 ghost use Rattle.kinds.specs.Wholes.{short_whole};
 
-use crate::letters::Letters;
 use crate::parts::{CodeParts, LetterCode};
 use fields::numbered;
-use std::marker::PhantomData;
 
-pub type ShortLetters = Letters<Short>;
+pub struct ShortLetters;
 
-// The kind as a value, as `Digits` is one.
-pub const ShortLetters: ShortLetters = Letters { of: PhantomData };
-
-#[derive(PartialEq, Eq)]
-pub struct Short;
-
-impl LetterCode for Short {
+impl LetterCode for ShortLetters {
     const CHECK_COUNT: usize = 13;
 
     const FIRST_EXPONENT: usize = 77;

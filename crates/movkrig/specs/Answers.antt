@@ -95,7 +95,7 @@ out_of_memory (Command e) = false
 out_of_memory (Refused e) = false
 out_of_memory (OutOfMemory e) = true
 
--- checking takes no memory, so there is always enough of it
+-- checking takes no memory, so there is always enough of it; writing may lack it
 abbrev pub EnoughMemory : LineTask → Result Held Failure → Type 0
 EnoughMemory (Check text) result = MatchResult result (λ answer. ⊤) (λ failure. out_of_memory failure ≡ false)
 EnoughMemory (Lone identifier load size) result = ⊤
